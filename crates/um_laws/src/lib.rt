@@ -1,0 +1,2 @@
+//! Mathematics without code: what the other crates' proofs cite.
+#![tactic(auto)]
