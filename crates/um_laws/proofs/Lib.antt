@@ -1,0 +1,10 @@
+pub mod Coprime
+pub mod Polynomials
+pub mod RationalBounds
+pub mod RationalField
+pub mod RationalOrder
+pub mod RationalParts
+pub mod Ring
+pub mod SumLaws
+pub mod WholeLaws
+pub mod WholeRing
