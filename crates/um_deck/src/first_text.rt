@@ -1,0 +1,146 @@
+//! The reader of plain decks: texts in normal form of decks that minimise, with whole numbers, rows
+//! with a high side alone, and continuous columns with two finite ends.
+
+ghost use Rattle.std.specs.Prelude.{◌≤◌, ◌<◌, length, OnOk};
+
+mod columns;
+mod sides;
+
+use crate::shape::{
+    are_columns_distinct, are_rows_distinct, columns_hold, is_new_row_name, rows_hold,
+};
+use crate::{Column, Deck, Fault, Row};
+use std::alloc::Global;
+use um_num::{List, Name};
+use um_text::{Cursor, whole};
+
+/// The most rows, the objective not among them.
+const MOST_ROWS: usize = 512;
+
+const MOST_COLUMNS: usize = 4096;
+
+/// The deck of which these bytes are the normal text, where it is a plain one.
+///
+/// The other answers are `NotYet`, for bytes that are no such text, and want of memory.
+pub fn first(alloc: Global, bytes: &[u8]) -> Result<Deck, Fault> {
+    let mut cursor = Cursor::new(bytes);
+    let head = read_head(alloc, &mut cursor)?;
+    let mut rows = read_rows(alloc, &mut cursor)?;
+    let mut columns = columns::read_columns(
+        alloc,
+        &mut cursor,
+        head.objective_name.as_bytes(),
+        rows.as_slice(),
+    )?;
+    sides::read_sides(&mut cursor, &mut rows)?;
+    sides::read_bounds(&mut cursor, &mut columns)?;
+    expect(&mut cursor, b"ENDATA\n")?;
+    if !cursor.is_at_end() {
+        return Err(Fault::NotYet);
+    }
+    finish(alloc, head, rows, columns)
+}
+
+/// The first lines of a deck: its name and its objective's.
+#[derive(Drop)]
+struct Head {
+    name: Name,
+    objective_name: Name,
+}
+
+fn read_head(alloc: Global, cursor: &mut Cursor<'_>) -> Result<Head, Fault> {
+    expect(cursor, b"NAME ")?;
+    let name = Name::from_bytes(alloc, plain_word(cursor)?)?;
+    expect(cursor, b"\nROWS\n N ")?;
+    let objective_name = Name::from_bytes(alloc, row_name(cursor)?)?;
+    expect(cursor, b"\n")?;
+    Ok(Head {
+        name,
+        objective_name,
+    })
+}
+
+/// The rows by their names, each with the high side 0 until the sides are read.
+fn read_rows(alloc: Global, cursor: &mut Cursor<'_>) -> Result<List<Row>, Fault> {
+    let mut rows = List::new(alloc);
+    'lines: while cursor.skip(b" L ") {
+        let name = Name::from_bytes(alloc, row_name(cursor)?)?;
+        expect(cursor, b"\n")?;
+        rows.push(Row {
+            name,
+            scale: 0,
+            low: None,
+            high: Some(0),
+        })?;
+    }
+    Ok(rows)
+}
+
+/// The deck of these parts, where they keep every limit and no name comes twice.
+fn finish(
+    alloc: Global,
+    head: Head,
+    rows: List<Row>,
+    columns: List<Column>,
+) -> Result<Deck, Fault> {
+    let Head {
+        name,
+        objective_name,
+    } = head;
+    if rows.len() > MOST_ROWS || columns.len() > MOST_COLUMNS {
+        return Err(Fault::NotYet);
+    }
+    if !rows_hold(rows.as_slice()) || !columns_hold(rows.len(), columns.as_slice()) {
+        return Err(Fault::NotYet);
+    }
+    if !is_new_row_name(rows.as_slice(), objective_name.as_bytes())
+        || !are_rows_distinct(rows.as_slice())
+        || !are_columns_distinct(columns.as_slice())
+    {
+        return Err(Fault::NotYet);
+    }
+    Ok(Deck::of_first(alloc, name, objective_name, rows, columns))
+}
+
+/// Steps over these bytes, which must come next.
+fn expect(cursor: &mut Cursor<'_>, bytes: &[u8]) -> Result<(), Fault>
+    ensures { length cursor.new ≤ length cursor.old }
+{
+    if cursor.skip(bytes) {
+        Ok(())
+    } else {
+        Err(Fault::NotYet)
+    }
+}
+
+/// The word that comes next; there must be one.
+fn plain_word<'b>(cursor: &mut Cursor<'b>) -> Result<&'b [u8], Fault>
+    ensures { length cursor.new ≤ length cursor.old }
+{
+    let word = cursor.word();
+    if word.is_empty() {
+        return Err(Fault::NotYet);
+    }
+    Ok(word)
+}
+
+/// A word that may name a row: in a deck's text `'MARKER'` stands for something else.
+fn row_name<'b>(cursor: &mut Cursor<'b>) -> Result<&'b [u8], Fault>
+    ensures { length cursor.new ≤ length cursor.old }
+{
+    let name = plain_word(cursor)?;
+    if name == b"'MARKER'".as_slice() {
+        return Err(Fault::NotYet);
+    }
+    Ok(name)
+}
+
+/// The whole number that comes next.
+fn number(cursor: &mut Cursor<'_>) -> Result<i64, Fault>
+    ensures { length cursor.new ≤ length cursor.old }
+{
+    let Ok(number) = whole(cursor.word()) else {
+        return Err(Fault::NotYet);
+    };
+    i64::try_from(number).map_err(|_| Fault::NotYet)
+}

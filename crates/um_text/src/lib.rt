@@ -1,0 +1,12 @@
+//! The smallest parts of UMPIRE's texts: words and numerals, read exactly.
+//!
+//! A reader of one fixed text steps through it with a [`Cursor`], which takes pieces from the front
+//! and never loses a byte: what it has given and what is left are together the text. Numerals are
+//! read one way only, so that a number has one numeral.
+#![tactic(auto)]
+
+pub mod cursor;
+pub mod numeral;
+
+pub use cursor::Cursor;
+pub use numeral::{NumberFault, whole};
