@@ -1,0 +1,4 @@
+pub mod Pieces
+pub mod SinkPieces
+pub mod ReadPieces
+pub mod WritePieces

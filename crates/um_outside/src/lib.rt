@@ -1,0 +1,25 @@
+//! The outside: where files and output come from and go to.
+//!
+//! A program that reads and writes through a [`Desk`] and a [`Sink`] can be proved without the
+//! system: their contracts say what each call does to what they tell of themselves. Two of each
+//! are here, one in memory that tells everything, for tests, and one over std that tells nothing.
+//!
+//! A fault sets a flag that nothing clears, and every call asks that the flag is not set: after a
+//! fault nothing more is called. A call that fails has raised the count of faults.
+#![tactic(auto)]
+
+pub mod desk;
+pub mod sink;
+pub mod standard;
+pub mod whole_file;
+
+pub use desk::Desk;
+pub use sink::{Sink, write_all};
+pub use standard::{FileDesk, StdSink};
+use thiserror::Error;
+pub use whole_file::{FileFault, read_file, write_file};
+
+/// A call on the outside failed. It says no more, since nothing is called after it.
+#[derive(Clone, Copy, PartialEq, Eq, Debug, Error)]
+#[error("a fault of the outside")]
+pub struct Failed;
