@@ -1,5 +1,5 @@
 -- Decks, points, multipliers and answers as plain values: what is compared and promised, whatever room their lists have.
-use Rattle.std.specs.Prelude.{ℕ, ℤ, Bool, List, Option, map}
+use Rattle.std.specs.Prelude.{ℕ, ℤ, Bool, List, Option}
 use Rattle.um_model.specs.declared.deck.Row.{Row}
 use Rattle.um_model.specs.declared.deck.Entry.{Entry}
 use Rattle.um_model.specs.declared.deck.Kind.{Kind}

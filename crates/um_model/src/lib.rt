@@ -1,3 +1,4 @@
+//! Decks, points, boxes, multipliers and trees: the plain data of a branch and bound search, and
 //! what every promise about them means.
 //!
 //! The types have public fields, and definitions read these fields directly. `specs/` holds the
@@ -13,6 +14,6 @@ pub mod tree;
 
 pub use branch::{Branch, Side};
 pub use deck::{Arc, Column, Entry, Kind, Member, OrderedSet, Row, SetKind};
-pub use multipliers::{Multipliers, Price};
-pub use point::Point;
+pub use multipliers::{Leaf, Multipliers, Price};
+pub use point::{Broken, Point};
 pub use tree::{Node, Solved, Tree, TreeFull, What};
