@@ -12,7 +12,7 @@ use crate::shape::{
 use crate::{Column, Deck, Fault, Row};
 use std::alloc::Global;
 use um_num::{List, Name};
-use um_text::{Cursor, whole};
+use um_text::Cursor;
 
 /// The most rows, the objective not among them.
 const MOST_ROWS: usize = 512;
@@ -34,7 +34,7 @@ pub fn first(alloc: Global, bytes: &[u8]) -> Result<Deck, Fault> {
     )?;
     sides::read_sides(&mut cursor, &mut rows)?;
     sides::read_bounds(&mut cursor, &mut columns)?;
-    expect(&mut cursor, b"ENDATA\n")?;
+    cursor.expect(b"ENDATA\n")?;
     if !cursor.is_at_end() {
         return Err(Fault::NotYet);
     }
@@ -49,11 +49,11 @@ struct Head {
 }
 
 fn read_head(alloc: Global, cursor: &mut Cursor<'_>) -> Result<Head, Fault> {
-    expect(cursor, b"NAME ")?;
-    let name = Name::from_bytes(alloc, plain_word(cursor)?)?;
-    expect(cursor, b"\nROWS\n N ")?;
+    cursor.expect(b"NAME ")?;
+    let name = Name::from_bytes(alloc, cursor.plain_word()?)?;
+    cursor.expect(b"\nROWS\n N ")?;
     let objective_name = Name::from_bytes(alloc, row_name(cursor)?)?;
-    expect(cursor, b"\n")?;
+    cursor.expect(b"\n")?;
     Ok(Head {
         name,
         objective_name,
@@ -65,7 +65,7 @@ fn read_rows(alloc: Global, cursor: &mut Cursor<'_>) -> Result<List<Row>, Fault>
     let mut rows = List::new(alloc);
     'lines: while cursor.skip(b" L ") {
         let name = Name::from_bytes(alloc, row_name(cursor)?)?;
-        expect(cursor, b"\n")?;
+        cursor.expect(b"\n")?;
         rows.push(Row {
             name,
             scale: 0,
@@ -102,45 +102,21 @@ fn finish(
     Ok(Deck::of_first(alloc, name, objective_name, rows, columns))
 }
 
-/// Steps over these bytes, which must come next.
-fn expect(cursor: &mut Cursor<'_>, bytes: &[u8]) -> Result<(), Fault>
-    ensures { length cursor.new ≤ length cursor.old }
-{
-    if cursor.skip(bytes) {
-        Ok(())
-    } else {
-        Err(Fault::NotYet)
-    }
-}
-
-/// The word that comes next; there must be one.
-fn plain_word<'b>(cursor: &mut Cursor<'b>) -> Result<&'b [u8], Fault>
-    ensures { length cursor.new ≤ length cursor.old }
-{
-    let word = cursor.word();
-    if word.is_empty() {
-        return Err(Fault::NotYet);
-    }
-    Ok(word)
-}
-
 /// A word that may name a row: in a deck's text `'MARKER'` stands for something else.
 fn row_name<'b>(cursor: &mut Cursor<'b>) -> Result<&'b [u8], Fault>
     ensures { length cursor.new ≤ length cursor.old }
 {
-    let name = plain_word(cursor)?;
+    let name = cursor.plain_word()?;
     if name == b"'MARKER'".as_slice() {
         return Err(Fault::NotYet);
     }
     Ok(name)
 }
 
-/// The whole number that comes next.
+/// The whole number that comes next, which must fit.
 fn number(cursor: &mut Cursor<'_>) -> Result<i64, Fault>
     ensures { length cursor.new ≤ length cursor.old }
 {
-    let Ok(number) = whole(cursor.word()) else {
-        return Err(Fault::NotYet);
-    };
+    let number = cursor.whole()?;
     i64::try_from(number).map_err(|_| Fault::NotYet)
 }

@@ -6,14 +6,18 @@
 //! tree a proof. There is no other code here.
 #![tactic(auto)]
 
+pub mod answer;
 pub mod branch;
 pub mod deck;
 pub mod multipliers;
 pub mod point;
 pub mod tree;
+pub mod verdict;
 
+pub use answer::{Answer, AnswerKind, Why};
 pub use branch::{Branch, Side};
 pub use deck::{Arc, Column, Entry, Kind, Member, OrderedSet, Row, SetKind};
 pub use multipliers::{Leaf, Multipliers, Price};
 pub use point::{Broken, Point};
 pub use tree::{Node, Solved, Tree, TreeFull, What};
+pub use verdict::{Reason, Verdict};

@@ -8,5 +8,5 @@
 pub mod cursor;
 pub mod numeral;
 
-pub use cursor::Cursor;
+pub use cursor::{Cursor, Unexpected};
 pub use numeral::{NumberFault, whole};

@@ -1,6 +1,6 @@
 //! Numerals: words that stand for numbers.
 
-ghost use Rattle.std.specs.Prelude.{ℤ, pos, ◌≤ℤ◌, IfSome};
+ghost use Rattle.std.specs.Prelude.{pos, ◌≤ℤ◌, ◌<◌, ◌^◌, unsigned_abs, IfOk, IfSome};
 
 use thiserror::Error;
 
@@ -14,7 +14,9 @@ pub enum NumberFault {
 }
 
 /// The number of a whole numeral: `0`, or an optional `-` and digits without a leading zero.
-pub fn whole(word: &[u8]) -> Result<i128, NumberFault> {
+pub fn whole(word: &[u8]) -> Result<i128, NumberFault>
+    ensures range { IfOk result (λ number. unsigned_abs number < 2 ^ 127) }
+{
     let (negative, digits) = match word.split_first() {
         Some((b'-', digits)) => (true, digits),
         _ => (false, word),

@@ -2,7 +2,7 @@
 
 ghost use Rattle.std.specs.Prelude.{◌≤◌, ◌<◌, length, IsTrue, IfSome};
 
-use crate::first_text::{expect, number, plain_word};
+use crate::first_text::number;
 use crate::{Column, Entry, Fault, Kind, Row};
 use std::alloc::Global;
 use um_num::{List, Name};
@@ -23,7 +23,7 @@ pub fn read_columns(
     objective: &[u8],
     rows: &[Row],
 ) -> Result<List<Column>, Fault> {
-    expect(cursor, b"COLUMNS\n")?;
+    cursor.expect(b"COLUMNS\n")?;
     let mut columns = List::new(alloc);
     'lines: while cursor.skip(b" ") {
         let line = read_line(cursor)?;
@@ -36,12 +36,12 @@ pub fn read_columns(
 fn read_line<'b>(cursor: &mut Cursor<'b>) -> Result<Line<'b>, Fault>
     ensures { length cursor.new ≤ length cursor.old }
 {
-    let column = plain_word(cursor)?;
-    expect(cursor, b" ")?;
-    let row = plain_word(cursor)?;
-    expect(cursor, b" ")?;
+    let column = cursor.plain_word()?;
+    cursor.expect(b" ")?;
+    let row = cursor.plain_word()?;
+    cursor.expect(b" ")?;
     let value = number(cursor)?;
-    expect(cursor, b"\n")?;
+    cursor.expect(b"\n")?;
     Ok(Line { column, row, value })
 }
 

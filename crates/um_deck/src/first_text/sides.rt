@@ -3,7 +3,7 @@
 ghost use Rattle.std.specs.Prelude.{◌≤◌, ◌<◌, length, ◌≡◌};
 
 use crate::first_text::columns::place_of;
-use crate::first_text::{expect, number, plain_word};
+use crate::first_text::number;
 use crate::{Column, Fault, Row};
 use um_num::List;
 use um_text::Cursor;
@@ -14,7 +14,7 @@ pub fn read_sides(cursor: &mut Cursor<'_>, rows: &mut List<Row>) -> Result<(), F
         return Ok(());
     }
     let mut next = 0;
-    expect(cursor, b" RHS ")?;
+    cursor.expect(b" RHS ")?;
     'lines: loop {
         next = read_side(cursor, rows, next)?;
         if !cursor.skip(b" RHS ") {
@@ -28,10 +28,10 @@ pub fn read_sides(cursor: &mut Cursor<'_>, rows: &mut List<Row>) -> Result<(), F
 fn read_side(cursor: &mut Cursor<'_>, rows: &mut List<Row>, next: usize) -> Result<usize, Fault>
     ensures { length cursor.new ≤ length cursor.old }
 {
-    let name = plain_word(cursor)?;
-    expect(cursor, b" ")?;
+    let name = cursor.plain_word()?;
+    cursor.expect(b" ")?;
     let value = number(cursor)?;
-    expect(cursor, b"\n")?;
+    cursor.expect(b"\n")?;
     let Some(place) = place_of(rows.as_slice(), name) else {
         return Err(Fault::NotYet);
     };
@@ -47,7 +47,7 @@ pub fn read_bounds(cursor: &mut Cursor<'_>, columns: &mut List<Column>) -> Resul
     if columns.is_empty() {
         return Ok(());
     }
-    expect(cursor, b"BOUNDS\n")?;
+    cursor.expect(b"BOUNDS\n")?;
     for place in 0..columns.len() {
         read_ends(cursor, columns.at_mut(place))?;
     }
@@ -64,10 +64,10 @@ fn read_ends(cursor: &mut Cursor<'_>, column: &mut Column) -> Result<(), Fault> 
 
 /// An end in thousandths, from a line that begins so and names this column.
 fn read_end(cursor: &mut Cursor<'_>, start: &[u8], name: &[u8]) -> Result<i64, Fault> {
-    expect(cursor, start)?;
-    expect(cursor, name)?;
-    expect(cursor, b" ")?;
+    cursor.expect(start)?;
+    cursor.expect(name)?;
+    cursor.expect(b" ")?;
     let value = number(cursor)?;
-    expect(cursor, b"\n")?;
+    cursor.expect(b"\n")?;
     value.checked_mul(1000).ok_or(Fault::NotYet)
 }
