@@ -7,6 +7,7 @@ use Rattle.std.proofs.lemmas.List.{length-map}
 use Rattle.std.proofs.lemmas.List.Elements.{All-map}
 use Rattle.std.proofs.lemmas.List.Kept.{AllPairs-cons}
 use mathlib.Core.Logic.{inl, inr}
+use Rattle.um_laws.proofs.RisingLists.{rises_between}
 use Rattle.um_model.specs.Values.{ColumnValue, plain_column, SetValue}
 use Rattle.um_model.specs.WellFormed.{InOrder, IsWithin, IsRow, IsEntry, IsColumn, IsDeck, IsSet, IsArc, KindFits}
 use Rattle.um_model.specs.declared.deck.Row.{Row}
@@ -32,21 +33,6 @@ pub all_at : {X : Type 0} (P : X → Type 0) (xs : List X) (i : ℕ) (x : X) →
 all_at P [] i x h e = absurd (cc)
 all_at P (y ∷ ys) zero x h e = let same : y ≡ x = cc in subst P same (h 0 y (omega arith))
 all_at P (y ∷ ys) (suc i) x h e = all_at P ys i x (λ k d within. h (suc k) d (omega arith)) e
-
-last_or_before : (i j : ℕ) → i < suc j → (i < j) ⊎ (i ≡ j)
-last_or_before i j h = grind arith
-
--- entries that rise from each to the next rise over all
-rise_between : (es : List Entry) → EntriesRise es → (i j : ℕ) (d : Entry) → i < j → j < length es → (get_or es i d).row < (get_or es j d).row
-rise_between es h i zero d below within = absurd (omega arith)
-rise_between es h i (suc j) d below within =
-    let next : (get_or es j d).row < (get_or es (j + 1) d).row = h j d (omega arith) in
-    let one : j + 1 ≡ suc j = omega arith in
-    let last : (get_or es j d).row < (get_or es (suc j) d).row = subst (λ (n : ℕ). (get_or es j d).row < (get_or es n d).row) one next in
-    elim (last_or_before i j below) [
-      | inl earlier ↦ let before = rise_between es h i j d earlier (omega arith) in omega (arith, before, last)
-      | inr same ↦ subst (λ (n : ℕ). (get_or es n d).row < (get_or es (suc j) d).row) (sym same) last
-    ]
 
 -- ---- rows and columns
 
@@ -74,7 +60,7 @@ column_is rows c h = record {
   high = size_of (10 ^ 10) c.high h.high;
   kind = subst (λ (k : Kind). KindFits k c.low c.high) (sym h.kind) tt;
   cost = h.cost;
-  rise = rise_between c.entries.items h.rise;
+  rise = rises_between (λ (e : Entry). e.row) c.entries.items h.rise;
   entries = λ k d within. record { row = (h.entries k d within).row; nonzero = (h.entries k d within).nonzero; size = (h.entries k d within).size };
 }
 

@@ -1,0 +1,15 @@
+//! All that the program `umpire` does, over any desk and sink.
+//!
+//! [`run`] takes the words of a command line, reads the files that they name, and writes one text.
+//! It knows one command so far: `check DECK TREE` reads a deck and a tree and says whether the tree
+//! proves its answer. A caller may rest on this: a refusal is one line that names its cause, nothing
+//! is written before the text is known, and after a fault of the outside nothing more is called.
+#![tactic(auto)]
+
+pub mod lines;
+pub mod outcome;
+pub mod tree_text;
+pub mod words;
+
+pub use outcome::{Outcome, ReadFault, Refusal, Status, TreeFault, TreeWord, WordFault};
+pub use um_model::{Reason, Verdict};

@@ -1,0 +1,127 @@
+//! How a call ended.
+
+ghost use Rattle.umpire.specs.Statuses.{status_number};
+ghost use Rattle.std.specs.Prelude.{◌≡◌};
+
+use thiserror::Error;
+use um_deck::Fault;
+use um_model::{Answer, Verdict};
+use um_num::Memory;
+use um_text::Unexpected;
+
+/// How a call ended. The number of a status, from 0 in this order, is the program's exit status.
+#[derive(Clone, Copy, PartialEq, Eq, Debug)]
+pub enum Status {
+    /// An optimal answer, or a verdict yes.
+    Optimal,
+    Infeasible,
+    Unbounded,
+    Limit,
+    Overflow,
+    /// A file's text was refused.
+    Refused,
+    /// The words of the command line were refused.
+    Words,
+    /// A file or the output failed.
+    Fault,
+    /// No memory was found.
+    Memory,
+    /// A verdict no.
+    No,
+}
+
+impl Status {
+    /// The program's exit status.
+    pub fn number(self) -> u8
+        ensures { result ≡ status_number self }
+    {
+        match self {
+            Status::Optimal => 0,
+            Status::Infeasible => 1,
+            Status::Unbounded => 2,
+            Status::Limit => 3,
+            Status::Overflow => 4,
+            Status::Refused => 5,
+            Status::Words => 6,
+            Status::Fault => 7,
+            Status::Memory => 8,
+            Status::No => 9,
+        }
+    }
+}
+
+/// Why the words of a command line are refused.
+#[derive(Clone, Copy, PartialEq, Eq, Debug, Error)]
+pub enum WordFault {
+    /// They are no command.
+    #[error("Line")]
+    Line,
+}
+
+/// Why a text is refused as a deck, and at which line, counted from 1. Line 0 is the whole file.
+#[derive(Clone, Copy, PartialEq, Eq, Debug, Error)]
+#[error("{fault} at line {line}")]
+pub struct ReadFault {
+    pub line: u32,
+    pub fault: Fault,
+}
+
+/// Why a text is refused as a tree.
+#[derive(Clone, Copy, PartialEq, Eq, Debug, Error)]
+pub enum TreeWord {
+    /// The text is in a form that is not read yet.
+    #[error("NotYet")]
+    NotYet,
+    #[error("no memory")]
+    Memory,
+}
+
+impl From<Memory> for TreeWord {
+    ghost use Rattle.umpire.specs.declared.outcome.TreeWord.TheVariants as word;
+
+    ghost from_gives = { λ _ given. given ≡ word.Memory };
+
+    fn from(_memory: Memory) -> TreeWord {
+        TreeWord::Memory
+    }
+}
+
+impl From<Unexpected> for TreeWord {
+    ghost use Rattle.umpire.specs.declared.outcome.TreeWord.TheVariants as word;
+
+    ghost from_gives = { λ _ given. given ≡ word.NotYet };
+
+    fn from(_unexpected: Unexpected) -> TreeWord {
+        TreeWord::NotYet
+    }
+}
+
+/// Why a text is refused as a tree, and at which line, counted from 1. Line 0 is the whole file.
+#[derive(Clone, Copy, PartialEq, Eq, Debug, Error)]
+#[error("{fault} at line {line}")]
+pub struct TreeFault {
+    pub line: u32,
+    pub fault: TreeWord,
+}
+
+/// What was refused. Want of memory is no refusal.
+#[derive(Clone, Copy, PartialEq, Eq, Debug)]
+pub enum Refusal {
+    Words(WordFault),
+    /// The tolerance asked for is below the least that the deck allows, in thousandths.
+    LowTolerance { least: i64 },
+    Deck(ReadFault),
+    Tree(TreeFault),
+}
+
+/// What a call did.
+#[derive(Debug, Drop)]
+pub struct Outcome {
+    pub status: Status,
+    /// The answer of a search.
+    pub answer: Option<Answer>,
+    /// The verdict on a tree.
+    pub verdict: Option<Verdict>,
+    /// What was refused, where something was.
+    pub refusal: Option<Refusal>,
+}
