@@ -2,3 +2,5 @@ pub mod Pieces
 pub mod SinkPieces
 pub mod ReadPieces
 pub mod WritePieces
+pub mod StoredFiles
+pub mod OpenFileSteps
