@@ -4,3 +4,4 @@ pub mod ReadPieces
 pub mod WritePieces
 pub mod StoredFiles
 pub mod OpenFileSteps
+pub mod DeskSteps

@@ -2,6 +2,9 @@
 use Rattle.std.proofs.Common.{◌≡◌, ◌≢◌, ℕ, zero, suc, ◌+◌, ◌-◌, ◌<◌, ◌≤◌, min, Bool, true, false, cond, List, [], ◌∷◌, ◌++◌, take, drop, length, Option, Some, None, option_map, option_and_then, ◌||◌, is_none, unwrap_or, slice_get, slice_set, length-append, length-take, length-drop, arith, refl, ap, sym, ◌∙◌, subst, IsSomeAnd}
 use Rattle.std.proofs.Math.Seq.{take-add}
 use Rattle.std.proofs.lemmas.List.{take_all}
+use Rattle.std.specs.Bool.{Decides}
+use Rattle.std.specs.Prelude.{◌==◌}
+use Rattle.std.proofs.lemmas.Bool.Decides.{Decides-eqb, not_from_Decides}
 use Rattle.um_outside.specs.Scenes.{Mode, Idle, Reading, Writing, IsReading, IsWriting, IsOpen}
 use Rattle.um_outside.specs.Desks.{IsFront, ChangesOnly, ChangesWritten}
 use Rattle.um_outside.specs.Stores.{place_of, files_in, name_at, contents, capacity_of, greatest_capacity}
@@ -10,7 +13,7 @@ use Rattle.um_outside.specs.OpenFiles.{mode_from, IsBusy, IsOpenFile}
 use Rattle.um_outside.specs.declared.stored.Stored.{Stored}
 use Rattle.um_outside.specs.declared.memory_desk.Doing.{Doing}
 use Rattle.um_outside.specs.declared.memory_desk.Doing.TheVariants as doing
-use Rattle.um_outside.proofs.StoredFiles.{name_of_place, file_at, place_of-set, slice_get-set_same, greatest-set, greatest-get, other_files, some_at, place_below}
+use Rattle.um_outside.proofs.StoredFiles.{name_of_place, file_at, place_of-set, slice_get-set_same, greatest-set, greatest-get, other_files, some_at, place_below, slice_get-push_old, slice_get-set_other, place_of-push_found}
 
 pub is_reading : (now : Doing) (name : Option (List ℕ)) → IsReading (mode_from now name) → now ≡ doing.Reading
 is_reading doing.Idle name h = absurd h
@@ -204,3 +207,60 @@ created stored name place left given put file changed found at named exists empt
       put_whole = λ _. none ∙ sym empty;
       room_left = λ _. room
     })
+
+-- the open file where another is put behind
+pub push_open : (stored after : List Stored) (added : Stored) (place left : ℕ) (now : Doing) (given put : List ℕ) → after ≡ stored ++ added ∷ [] → place < length stored → ((file : Stored) → slice_get stored place ≡ Some file → IsOpenFile stored place left now given put file) → (file : Stored) → slice_get after place ≡ Some file → IsOpenFile after place left now given put file
+push_open stored after added place left now given put e below open_file file at =
+    let was : slice_get stored place ≡ Some file = sym (slice_get-push_old stored added place below) ∙ ap (λ (xs : List Stored). slice_get xs place) (sym e) ∙ at in
+    let is = open_file file was in
+    record {
+      found = ap (λ (xs : List Stored). place_of xs file.name) e ∙ place_of-push_found stored added file.name place is.found;
+      exists = is.exists;
+      within = is.within;
+      given_front = is.given_front;
+      put_whole = is.put_whole;
+      room_left = is.room_left
+    }
+
+-- the open file where one, maybe the same, gets another room
+moved : (stored : List Stored) (place current left : ℕ) (now : Doing) (given put : List ℕ) (file changed was other : Stored) → slice_get stored place ≡ Some file → changed.name ≡ file.name → IsOpenFile stored current left now given put was → other.name ≡ was.name → other.exists ≡ was.exists → other.bytes.items ≡ was.bytes.items → was.bytes.spare ≤ other.bytes.spare → IsOpenFile (slice_set stored place changed) current left now given put other
+moved stored place current left now given put file changed was other at named is name exists items more = record {
+  found = place_of-set stored place file changed other.name at named ∙ ap (place_of stored) name ∙ is.found;
+  exists = exists ∙ is.exists;
+  within = λ e. omega (arith, is.within e, ap length items);
+  given_front = λ e. is.given_front e ∙ ap (take (length given)) (sym items);
+  put_whole = λ e. is.put_whole e ∙ sym items;
+  room_left = λ e. omega (arith, is.room_left e, more)
+}
+
+room_by : (b : Bool) (stored : List Stored) (place current left : ℕ) (now : Doing) (given put : List ℕ) (file changed : Stored) → Decides b (current ≡ place) → slice_get stored place ≡ Some file → changed.name ≡ file.name → changed.exists ≡ file.exists → changed.bytes.items ≡ file.bytes.items → file.bytes.spare ≤ changed.bytes.spare → ((f : Stored) → slice_get stored current ≡ Some f → IsOpenFile stored current left now given put f) → (other : Stored) → slice_get (slice_set stored place changed) current ≡ Some other → IsOpenFile (slice_set stored place changed) current left now given put other
+room_by true stored place current left now given put file changed decides at name exists items more open_file other at' =
+    let here : current ≡ place = decides.0 refl in
+    let is = open_file file (ap (slice_get stored) here ∙ at) in
+    let same : Some changed ≡ Some other = sym (slice_get-set_same stored place file changed at) ∙ ap (slice_get (slice_set stored place changed)) (sym here) ∙ at' in
+    let changed_is : changed ≡ other = cc in
+    subst (λ (f : Stored). IsOpenFile (slice_set stored place changed) current left now given put f) changed_is (moved stored place current left now given put file changed file changed at name is name exists items more)
+room_by false stored place current left now given put file changed decides at name exists items more open_file other at' =
+    let was : slice_get stored current ≡ Some other = sym (slice_get-set_other stored place current changed (not_from_Decides false decides refl)) ∙ at' in
+    moved stored place current left now given put file changed other other at name (open_file other was) refl refl refl (omega arith)
+
+pub room_open : (stored : List Stored) (place current left : ℕ) (now : Doing) (given put : List ℕ) (file changed : Stored) → slice_get stored place ≡ Some file → changed.name ≡ file.name → changed.exists ≡ file.exists → changed.bytes.items ≡ file.bytes.items → file.bytes.spare ≤ changed.bytes.spare → ((f : Stored) → slice_get stored current ≡ Some f → IsOpenFile stored current left now given put f) → (other : Stored) → slice_get (slice_set stored place changed) current ≡ Some other → IsOpenFile (slice_set stored place changed) current left now given put other
+room_open stored place current left now given put file changed at name exists items more open_file other at' =
+    room_by (current == place) stored place current left now given put file changed (Decides-eqb current place) at name exists items more open_file other at'
+
+pub contents_same : (a b : Stored) → a.exists ≡ b.exists → a.bytes.items ≡ b.bytes.items → contents a ≡ contents b
+contents_same a b exists items = ap (λ (e : Bool). cond e (Some a.bytes.items) None) exists ∙ ap (λ (bytes : List ℕ). cond b.exists (Some bytes) None) items
+
+-- the name at a place where a file that keeps its name is changed
+pub kept_name : (stored : List Stored) (place : ℕ) (file changed : Stored) (j : ℕ) → slice_get stored place ≡ Some file → changed.name ≡ file.name → name_at (slice_set stored place changed) j ≡ name_at stored j
+kept_name [] place file changed j at same = refl
+kept_name (x ∷ stored) zero file changed zero at same = let is : x ≡ file = cc in ap Some (same ∙ ap (λ (f : Stored). f.name) (sym is))
+kept_name (x ∷ stored) zero file changed (suc j) at same = refl
+kept_name (x ∷ stored) (suc place) file changed zero at same = refl
+kept_name (x ∷ stored) (suc place) file changed (suc j) at same = kept_name stored place file changed j at same
+
+-- the mode where a file is put behind the others
+pub push_mode : (stored after : List Stored) (added : Stored) (place : ℕ) (now : Doing) → after ≡ stored ++ added ∷ [] → (IsBusy now → place < length stored) → mode_from now (name_at after place) ≡ mode_from now (name_at stored place)
+push_mode stored after added place doing.Idle e below = refl
+push_mode stored after added place doing.Reading e below = ap (λ (o : Option Stored). Reading (option_map (λ (f : Stored). f.name) o)) (ap (λ (xs : List Stored). slice_get xs place) e ∙ slice_get-push_old stored added place (below tt))
+push_mode stored after added place doing.Writing e below = ap (λ (o : Option Stored). Writing (option_map (λ (f : Stored). f.name) o)) (ap (λ (xs : List Stored). slice_get xs place) e ∙ slice_get-push_old stored added place (below tt))

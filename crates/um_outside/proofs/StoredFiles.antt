@@ -1,12 +1,12 @@
 -- The files of a desk in memory, by their places and their names, where one is changed or put behind them.
-use Rattle.std.proofs.Common.{◌≡◌, ◌≢◌, ℕ, zero, suc, ◌+◌, ◌-◌, ◌<◌, ◌≤◌, max, Bool, true, false, cond, eqb, nat_lt, List, [], ◌∷◌, ◌++◌, length, get_or, set, Option, Some, None, option_map, option_and_then, is_none, slice_get, slice_set, length-set, length-append, arith, refl, ap, sym, ◌∙◌, subst}
+use Rattle.std.proofs.Common.{◌≡◌, ◌≢◌, ℕ, zero, suc, ◌+◌, ◌-◌, ◌<◌, ◌≤◌, max, Bool, true, false, cond, eqb, nat_lt, List, [], ◌∷◌, ◌++◌, length, get_or, set, Option, Some, None, option_map, option_and_then, is_none, slice_get, slice_set, length-set, length-append, length-take, not, arith, refl, ap, sym, ◌∙◌, subst}
 use Rattle.std.specs.Prelude.{bytes_eq}
 use Rattle.std.specs.List.{position_or_len}
 use Rattle.std.proofs.lemmas.List.Quantifiers.{position-Some}
-use Rattle.std.proofs.lemmas.List.Folds.{position_or_len-set, position_or_len_push}
+use Rattle.std.proofs.lemmas.List.Folds.{position_or_len-set, position_or_len_push, length-prefix_len}
 use Rattle.std.proofs.lemmas.Option.{get_or_from_slice_get, slice_get-get_or}
 use Rattle.std.proofs.lemmas.Slice.Eq.{bytes_eq-Decides}
-use Rattle.std.proofs.lemmas.Bool.{ltb-true, lt-ltb}
+use Rattle.std.proofs.lemmas.Bool.{ltb-true, ltb-false, lt-ltb}
 use Rattle.std.proofs.lemmas.Bool.Decides.{nat_tests}
 use Rattle.um_outside.specs.Stores.{place_of, stored_in, files_in, room_in, contents, capacity_of, greatest_capacity}
 use Rattle.um_outside.specs.declared.stored.Stored.{Stored}
@@ -166,3 +166,55 @@ pub some_at : (stored : List Stored) (place : ℕ) → place < length stored →
 some_at [] place below = absurd (omega arith)
 some_at (x ∷ stored) zero below = (x, refl)
 some_at (x ∷ stored) (suc place) below = some_at stored place (omega (arith, below))
+
+not_below : (n : ℕ) → nat_lt n n ≡ false
+not_below n = grind (arith, nat_tests)
+
+by_test : (b : Bool) (n : ℕ) → cond (nat_lt (n + cond b 0 1) (n + 1)) (Some (n + cond b 0 1)) None ≡ cond b (Some n) None
+by_test true n = ap (λ (c : Bool). cond c (Some (n + 0)) None) (lt-ltb (n + 0) (n + 1) (omega arith)) ∙ ap Some (omega arith)
+by_test false n = ap (λ (c : Bool). cond c (Some (n + 1)) None) (not_below (n + 1))
+
+-- a file put behind the others, where its name was not among them
+pub place_of-push_new : (stored : List Stored) (file : Stored) (name : List ℕ) → place_of stored name ≡ None → place_of (stored ++ file ∷ []) name ≡ cond (bytes_eq file.name name) (Some (length stored)) None
+place_of-push_new stored file name missing =
+    let p : Stored → Bool = λ f. bytes_eq f.name name in
+    let k = position_or_len p stored in
+    let n = length stored in
+    let past = none_when (nat_lt k n) k missing in
+    let over : n ≤ k = ltb-false k n past in
+    let under : k ≤ n = omega (arith, ap (λ (m : ℕ). m) (sym (length-prefix_len (λ (f : Stored). not (p f)) stored) ∙ length-take k stored)) in
+    let same : k ≡ n = omega (arith, over, under) in
+    let first : position_or_len p (stored ++ file ∷ []) ≡ n + cond (p file) 0 1 = position_or_len_push p stored file ∙ at_end k n (n + cond (p file) 0 1) same in
+    let size : length (stored ++ file ∷ []) ≡ n + 1 = length-append stored (file ∷ []) in
+    ap (λ (j : ℕ). cond (nat_lt j (length (stored ++ file ∷ []))) (Some j) None) first ∙ ap (λ (m : ℕ). cond (nat_lt (n + cond (p file) 0 1) m) (Some (n + cond (p file) 0 1)) None) size ∙ by_test (p file) n
+
+pub push_place : (stored after : List Stored) (file : Stored) (name : List ℕ) → after ≡ stored ++ file ∷ [] → place_of stored name ≡ None → file.name ≡ name → place_of after name ≡ Some (length stored)
+push_place stored after file name e missing named =
+    ap (λ (xs : List Stored). place_of xs name) e ∙ place_of-push_new stored file name missing ∙ ap (λ (b : Bool). cond b (Some (length stored)) None) ((bytes_eq-Decides file.name name).1 named)
+
+new_at : {Y : Type 0} (f : Stored → Option Y) (stored : List Stored) (file : Stored) (b : Bool) → f file ≡ None → option_and_then f (option_and_then (slice_get (stored ++ file ∷ [])) (cond b (Some (length stored)) None)) ≡ None
+new_at f stored file true none = ap (option_and_then f) (slice_get-push_new stored file) ∙ none
+new_at f stored file false none = refl
+
+old_at : {Y : Type 0} (f : Stored → Option Y) (stored : List Stored) (file : Stored) (name : List ℕ) (o : Option ℕ) → f file ≡ None → place_of stored name ≡ o → option_and_then f (option_and_then (slice_get (stored ++ file ∷ [])) (place_of (stored ++ file ∷ []) name)) ≡ option_and_then f (option_and_then (slice_get stored) o)
+old_at f stored file name None none e =
+    ap (λ (o : Option ℕ). option_and_then f (option_and_then (slice_get (stored ++ file ∷ [])) o)) (place_of-push_new stored file name e) ∙ new_at f stored file (bytes_eq file.name name) none
+old_at f stored file name (Some place) none e =
+    ap (λ (o : Option ℕ). option_and_then f (option_and_then (slice_get (stored ++ file ∷ [])) o)) (place_of-push_found stored file name place e) ∙ ap (option_and_then f) (slice_get-push_old stored file place (place_below stored name place e))
+
+-- what a file that is put behind the others doesn't show is as it was at every name
+pub push_kept : {Y : Type 0} (f : Stored → Option Y) (stored after : List Stored) (file : Stored) (name : List ℕ) → after ≡ stored ++ file ∷ [] → f file ≡ None → option_and_then f (stored_in after name) ≡ option_and_then f (stored_in stored name)
+push_kept f stored after file name e none =
+    ap (λ (xs : List Stored). option_and_then f (stored_in xs name)) e ∙ old_at f stored file name (place_of stored name) none refl
+
+pub push_fits : (stored after : List Stored) (file : Stored) (bound : ℕ) → after ≡ stored ++ file ∷ [] → capacity_of file ≡ 0 → greatest_capacity stored ≤ bound → greatest_capacity after ≤ bound
+push_fits stored after file bound e none fits = subst (λ (xs : List Stored). greatest_capacity xs ≤ bound) (sym e) (omega (arith, greatest-push stored file, none, fits))
+
+pub push_within : (stored after : List Stored) (file : Stored) (k : ℕ) → after ≡ stored ++ file ∷ [] → k < length stored → k < length after
+push_within stored after file k e below = omega (arith, ap (λ (xs : List Stored). length xs) e, length-append stored (file ∷ []), below)
+
+pub fits_changed : (stored : List Stored) (place : ℕ) (changed : Stored) (bound : ℕ) → greatest_capacity stored ≤ bound → capacity_of changed ≤ bound → greatest_capacity (slice_set stored place changed) ≤ bound
+fits_changed stored place changed bound fits new = omega (arith, greatest-set stored place changed, fits, new)
+
+pub pushed_on : (stored between after : List Stored) (file : Stored) → after ≡ between ++ file ∷ [] → between ≡ stored → after ≡ stored ++ file ∷ []
+pushed_on stored between after file e same = e ∙ ap (λ (xs : List Stored). xs ++ file ∷ []) same

@@ -164,13 +164,15 @@ impl MemoryDesk {
         if let Some(place) = find(self.files.as_slice(), name) {
             return Ok(place);
         }
-        let place = self.files.len();
-        self.files.push(Stored {
+        let added = Stored {
             name: FileName::from_text(self.alloc, name)?,
             exists: false,
             bytes: List::new(self.alloc),
             room: None,
-        })?;
+        };
+        self.files.reserve(1)?;
+        let place = self.files.len();
+        self.files.push_reserved(added);
         Ok(place)
     }
 
@@ -211,8 +213,8 @@ impl MemoryDesk {
         ensures ok { OnOk result (RoomSet name.now bytes self.old self.new) }
         ensures err { OnErr result (SameDesk self.old self.new) }
     {
-        self.reserve(bytes)?;
         let place = self.place_for(name)?;
+        self.reserve(bytes)?;
         set_room(self.files.at_mut(place), bytes)
     }
 }
