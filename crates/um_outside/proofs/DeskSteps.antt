@@ -11,7 +11,7 @@ same_state a b c s t = record {
   stopped = t.stopped ∙ s.stopped;
   made = t.made ∙ s.made;
   left = t.left ∙ s.left;
-  piece = t.piece ∙ s.piece
+  piece = t.piece ∙ s.piece;
 }
 
 pub same_desk : (a b c : MemoryDesk) → SameDesk a b → SameDesk b c → SameDesk a c
@@ -19,7 +19,7 @@ same_desk a b c s t = record {
   state = same_state a b c s.state t.state;
   failing = t.failing ∙ s.failing;
   files = λ name. t.files name ∙ s.files name;
-  rooms = λ name. t.rooms name ∙ s.rooms name
+  rooms = λ name. t.rooms name ∙ s.rooms name;
 }
 
 pub file_set : (name bytes : List ℕ) (a b c : MemoryDesk) → SameDesk a b → FileSet name bytes b c → FileSet name bytes a c
@@ -28,7 +28,7 @@ file_set name bytes a b c s t = record {
   failing = t.failing ∙ s.failing;
   file = t.file;
   others = λ other differs. t.others other differs ∙ s.files other;
-  rooms = λ other. t.rooms other ∙ s.rooms other
+  rooms = λ other. t.rooms other ∙ s.rooms other;
 }
 
 pub room_set : (name : List ℕ) (bytes : ℕ) (a b c : MemoryDesk) → SameDesk a b → RoomSet name bytes b c → RoomSet name bytes a c
@@ -37,7 +37,7 @@ room_set name bytes a b c s t = record {
   failing = t.failing ∙ s.failing;
   files = λ other. t.files other ∙ s.files other;
   room = t.room;
-  others = λ other differs. t.others other differs ∙ s.rooms other
+  others = λ other differs. t.others other differs ∙ s.rooms other;
 }
 
 pub on_ok : {A E : Type 0} (r : Result A E) (P Q : Type 0) → (P → Q) → OnOk r P → OnOk r Q

@@ -89,7 +89,7 @@ opened stored name place left given put file found at exists none = record {
   within = λ _. rw none (omega arith);
   given_front = λ _. rw none refl;
   put_whole = λ e. absurd (cc);
-  room_left = λ e. absurd (cc)
+  room_left = λ e. absurd (cc);
 }
 
 -- more bytes of the file were given
@@ -109,7 +109,7 @@ read_on stored place left now given put file n reading is h = record {
   within = λ _. omega (arith, more_length file.bytes.items given n (is.within reading) h, is.within reading, h);
   given_front = λ _. given_front_more file.bytes.items given n (is.given_front reading) (is.within reading) h;
   put_whole = is.put_whole;
-  room_left = is.room_left
+  room_left = is.room_left;
 }
 
 -- where no bytes were given though some were asked for, all were given
@@ -161,7 +161,7 @@ write_on stored place left now given put put' file changed more n writing at is 
       within = λ e. absurd (not_both now e writing);
       given_front = λ e. absurd (not_both now e writing);
       put_whole = λ _. puts ∙ ap (λ (p : List ℕ). p ++ more) (is.put_whole writing) ∙ sym (ap (λ (l : Listed ℕ). l.items) bytes);
-      room_left = λ _. omega (arith, ap (λ (l : Listed ℕ). l.spare) bytes, is.room_left writing, count)
+      room_left = λ _. omega (arith, ap (λ (l : Listed ℕ). l.spare) bytes, is.room_left writing, count);
     })
 
 pub changes_written : (stored : List Stored) (place : ℕ) (now : Doing) (file changed : Stored) → now ≡ doing.Writing → slice_get stored place ≡ Some file → changed.name ≡ file.name → place_of stored file.name ≡ Some place → ChangesWritten (mode_from now (name_at stored place)) (Some (files_in stored)) (Some (files_in (slice_set stored place changed)))
@@ -205,7 +205,7 @@ created stored name place left given put file changed found at named exists empt
       within = λ e. absurd (cc);
       given_front = λ e. absurd (cc);
       put_whole = λ _. none ∙ sym empty;
-      room_left = λ _. room
+      room_left = λ _. room;
     })
 
 -- the open file where another is put behind
@@ -219,7 +219,7 @@ push_open stored after added place left now given put e below open_file file at 
       within = is.within;
       given_front = is.given_front;
       put_whole = is.put_whole;
-      room_left = is.room_left
+      room_left = is.room_left;
     }
 
 -- the open file where one, maybe the same, gets another room
@@ -230,7 +230,7 @@ moved stored place current left now given put file changed was other at named is
   within = λ e. omega (arith, is.within e, ap length items);
   given_front = λ e. is.given_front e ∙ ap (take (length given)) (sym items);
   put_whole = λ e. is.put_whole e ∙ sym items;
-  room_left = λ e. omega (arith, is.room_left e, more)
+  room_left = λ e. omega (arith, is.room_left e, more);
 }
 
 room_by : (b : Bool) (stored : List Stored) (place current left : ℕ) (now : Doing) (given put : List ℕ) (file changed : Stored) → Decides b (current ≡ place) → slice_get stored place ≡ Some file → changed.name ≡ file.name → changed.exists ≡ file.exists → changed.bytes.items ≡ file.bytes.items → file.bytes.spare ≤ changed.bytes.spare → ((f : Stored) → slice_get stored current ≡ Some f → IsOpenFile stored current left now given put f) → (other : Stored) → slice_get (slice_set stored place changed) current ≡ Some other → IsOpenFile (slice_set stored place changed) current left now given put other

@@ -19,7 +19,7 @@ scene_of desk = record {
   put = Some desk.put.items;
   holds = Some (file_in desk);
   faults = cond desk.stopped 1 0;
-  stopped = desk.stopped
+  stopped = desk.stopped;
 }
 
 -- Whether the next call is one that was told to fail.

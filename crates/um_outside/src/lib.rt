@@ -16,6 +16,8 @@ pub mod memory_sink;
 pub mod sink;
 pub mod standard;
 mod stored;
+#[cfg(test)]
+mod tests;
 pub mod whole_file;
 
 pub use desk::Desk;

@@ -43,7 +43,7 @@ returns-clause-same c =
       state = record { mode = push_mode d.files.items c.push_reserved.new.self.items _ d.current d.doing e d.current_in; given = refl; put = refl; stopped = refl; made = refl; left = refl; piece = refl };
       failing = refl;
       files = λ other. push_kept contents d.files.items c.push_reserved.new.self.items _ other e refl;
-      rooms = λ other. push_kept (λ (f : Stored). f.room) d.files.items c.push_reserved.new.self.items _ other e refl
+      rooms = λ other. push_kept (λ (f : Stored). f.room) d.files.items c.push_reserved.new.self.items _ other e refl;
     }
 
 pub returns-clause-place : goal.returns-clause-place

@@ -86,5 +86,5 @@ returns-clause-ok c =
       failing = refl;
       file = file_at _ name place _ (place_of-set e.files.items place file _ name at refl ∙ found) (slice_get-set_same e.files.items place file _ at) refl ∙ ap Some (items ∙ before_items);
       others = other_files e.files.items name place file _ found at refl;
-      rooms = λ other. kept_in (λ (f : Stored). f.room) e.files.items place file _ other at refl refl
+      rooms = λ other. kept_in (λ (f : Stored). f.room) e.files.items place file _ other at refl refl;
     })

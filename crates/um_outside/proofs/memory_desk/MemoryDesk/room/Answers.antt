@@ -56,7 +56,7 @@ returns-clause-ok c =
       failing = refl;
       files = λ other. kept_in contents e.files.items place file changed other at c.set_room.ensures.name (contents_same changed file c.set_room.ensures.exists c.set_room.ensures.items);
       room = ap (λ (o : Option Stored). option_and_then (λ (f : Stored). f.room) o) (stored_in-set_same e.files.items name place file changed found at c.set_room.ensures.name) ∙ set;
-      others = other_rooms e.files.items name place file changed found at c.set_room.ensures.name
+      others = other_rooms e.files.items name place file changed found at c.set_room.ensures.name;
     })) c.set_room.ensures.room
 
 pub returns-clause-err : goal.returns-clause-err
@@ -73,5 +73,5 @@ returns-clause-err c =
       state = record { mode = ap (λ (n : Option (List ℕ)). mode_from e.doing n) (kept_name e.files.items place file changed e.current at c.set_room.ensures.name); given = refl; put = refl; stopped = refl; made = refl; left = refl; piece = refl };
       failing = refl;
       files = λ other. kept_in contents e.files.items place file changed other at c.set_room.ensures.name (contents_same changed file c.set_room.ensures.exists c.set_room.ensures.items);
-      rooms = λ other. kept_in (λ (f : Stored). f.room) e.files.items place file changed other at c.set_room.ensures.name kept
+      rooms = λ other. kept_in (λ (f : Stored). f.room) e.files.items place file changed other at c.set_room.ensures.name kept;
     })) c.set_room.ensures.err

@@ -77,7 +77,7 @@ returns-clause-scene c =
       given = refl;
       put = ap Some put_items;
       holds = other_files d.files.items name place file _ found at refl;
-      empty = file_at _ name place _ (place_of-set d.files.items place file _ name at refl ∙ found) (slice_get-set_same d.files.items place file _ at) refl ∙ ap Some items
+      empty = file_at _ name place _ (place_of-set d.files.items place file _ name at refl ∙ found) (slice_get-set_same d.files.items place file _ at) refl ∙ ap Some items;
     }
 
 pub returns-clause-made : goal.returns-clause-made
@@ -90,5 +90,5 @@ returns-clause-made c =
     let at = at_index d.files.items place file (place_below d.files.items name place found) c.at_mut-file.ensures.value in
     record {
       made = search rules;
-      settings = record { piece = refl; failing = search rules; rooms = λ other. kept_in (λ (f : Stored). f.room) d.files.items place file _ other at refl refl }
+      settings = record { piece = refl; failing = search rules; rooms = λ other. kept_in (λ (f : Stored). f.room) d.files.items place file _ other at refl refl };
     }

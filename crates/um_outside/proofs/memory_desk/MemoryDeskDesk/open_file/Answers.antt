@@ -27,5 +27,5 @@ returns-clause-scene c =
       mode = ap Reading (name_at_place d.files.items c.args.name.now c.in-Some.place found);
       given = ap (λ (l : Listed ℕ). Some l.items) c.clear.ensures;
       put = refl;
-      holds = refl
+      holds = refl;
     }

@@ -81,16 +81,18 @@ returns-clause-scene c =
     let items : c.give.new.given.items ≡ d.given.items ++ take n (drop (length d.given.items) file.bytes.items) = ap (λ (l : Listed ℕ). l.items) given in
     let into : take n c.give.new.into ≡ take n (drop (length d.given.items) file.bytes.items) = rw rest at c.give.ensures.into in
     let front : IsFront c.give.new.given.items file.bytes.items = subst (λ (g : List ℕ). IsFront g file.bytes.items) (sym items) (given_front_more file.bytes.items d.given.items n (is.given_front now) (is.within now) within) in
-    let size : n ≡ min (min (length file.bytes.items - length d.given.items) (length c.args.into.now)) d.piece = omega (arith, count, left) in
-    (search rules, record {
-      well = search rules;
-      mode = refl;
-      given = ap Some (items ∙ ap (λ (x : List ℕ). d.given.items ++ x) (sym into));
-      front = λ name mode. and_is (files_in d.files.items name) file.bytes.items _ (read_file_is d.files.items d.current d.left d.doing d.given.items d.put.items file name now at is mode) front;
-      end = λ none. λ name mode. and_is (files_in d.files.items name) file.bytes.items _ (read_file_is d.files.items d.current d.left d.doing d.given.items d.put.items file name now at is mode) (items ∙ all_given file.bytes.items d.given.items c.args.into.now n d.piece (is.given_front now) (is.within now) size d.piece_up c.requires.room (sym into ∙ none));
-      put = refl;
-      holds = refl
-    })
+    let size : n ≡ min (min (length file.bytes.items - length d.given.items) (length c.args.into.now)) d.piece = omega (arith, count, left) in (
+      search rules,
+      record {
+        well = search rules;
+        mode = refl;
+        given = ap Some (items ∙ ap (λ (x : List ℕ). d.given.items ++ x) (sym into));
+        front = λ name mode. and_is (files_in d.files.items name) file.bytes.items _ (read_file_is d.files.items d.current d.left d.doing d.given.items d.put.items file name now at is mode) front;
+        end = λ none. λ name mode. and_is (files_in d.files.items name) file.bytes.items _ (read_file_is d.files.items d.current d.left d.doing d.given.items d.put.items file name now at is mode) (items ∙ all_given file.bytes.items d.given.items c.args.into.now n d.piece (is.given_front now) (is.within now) size d.piece_up c.requires.room (sym into ∙ none));
+        put = refl;
+        holds = refl;
+      },
+    )
 
 pub returns-clause-count : goal.returns-clause-count
 returns-clause-count c =

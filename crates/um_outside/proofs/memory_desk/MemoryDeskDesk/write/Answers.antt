@@ -73,14 +73,17 @@ returns-clause-scene c =
     let busy = busy_writing d.doing now in
     let file = c.at_mut.result.now in
     let at = at_index d.files.items d.current file (d.current_in busy) c.at_mut.ensures.value in
-    let is = d.open_file busy file at in
-    (search rules, search rules, record {
-      well = search rules;
-      mode = ap (λ (n : Option (List ℕ)). mode_from d.doing n) (name_kept d.files.items d.current file _ at refl);
-      given = refl;
-      put = ap (λ (l : Listed ℕ). Some l.items) c.append_reserved.ensures;
-      holds = changes_written d.files.items d.current d.doing file _ now at refl is.found
-    })
+    let is = d.open_file busy file at in (
+      search rules,
+      search rules,
+      record {
+        well = search rules;
+        mode = ap (λ (n : Option (List ℕ)). mode_from d.doing n) (name_kept d.files.items d.current file _ at refl);
+        given = refl;
+        put = ap (λ (l : Listed ℕ). Some l.items) c.append_reserved.ensures;
+        holds = changes_written d.files.items d.current d.doing file _ now at refl is.found;
+      },
+    )
 
 pub returns-clause-made : goal.returns-clause-made
 returns-clause-made c =
@@ -91,7 +94,7 @@ returns-clause-made c =
     let at = at_index d.files.items d.current file (d.current_in busy) c.at_mut.ensures.value in
     record {
       made = search rules;
-      settings = record { piece = refl; failing = search rules; rooms = λ name. kept_in (λ (f : Stored). f.room) d.files.items d.current file _ name at refl refl }
+      settings = record { piece = refl; failing = search rules; rooms = λ name. kept_in (λ (f : Stored). f.room) d.files.items d.current file _ name at refl refl };
     }
 
 pub invariant_of-self-2-clause-current_in : goal.invariant_of-self-2-clause-current_in
