@@ -21,7 +21,7 @@ read_more name bytes more s t u a b = record {
   mode = b.mode ∙ a.mode;
   given = set_then_added s.given t.given u.given bytes more a.given b.given;
   put = b.put ∙ a.put;
-  holds = b.holds ∙ a.holds
+  holds = b.holds ∙ a.holds;
 }
 
 -- what is known of the bytes given and the open file, at the file of this name

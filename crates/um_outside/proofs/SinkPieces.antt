@@ -8,5 +8,5 @@ pub took_more : (bytes : List ℕ) (at n : ℕ) (s t u : SinkScene) → Took (ta
 took_more bytes at n s t u a b = record {
   held = rw (take-add at n bytes) (added_twice s.held t.held u.held (take at bytes) (take n (drop at bytes)) a.held b.took.held);
   faults = omega (arith, a.faults, b.took.faults);
-  stopped = b.took.stopped ∙ a.stopped
+  stopped = b.took.stopped ∙ a.stopped;
 }

@@ -33,7 +33,7 @@ written_more name bytes at n s t u a b = record {
   mode = b.mode ∙ a.mode;
   given = b.given ∙ a.given;
   put = rw (take-add at n bytes) (set_then_added s.put t.put u.put (take at bytes) (take n (drop at bytes)) a.put b.put);
-  holds = changes_on name (take at bytes) s t u.holds a b.holds
+  holds = changes_on name (take at bytes) s t u.holds a b.holds;
 }
 
 of_the_file : (name bytes : List ℕ) (p0 p : Option (List ℕ)) (h0 h : Option Files) (mode : Mode) → mode ≡ Writing (option_map (λ _. name) h0) → p ≡ option_map (λ _. bytes) p0 → ChangesOnly name h0 h → IfSome p (λ put. IfSome h (λ files. (name : List ℕ) → mode ≡ Writing (Some name) → IsSomeAnd (files name) (λ file. file ≡ put))) → IfSome p (λ _. IfSome h (λ files. files name ≡ Some bytes))

@@ -3,3 +3,8 @@ pub mod Desks
 pub mod WholeFiles
 pub mod Sinks
 pub mod Standards
+pub mod Numbered
+pub mod MemorySinks
+pub mod Stores
+pub mod OpenFiles
+pub mod MemoryDesks

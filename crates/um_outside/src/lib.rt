@@ -8,12 +8,21 @@
 //! fault nothing more is called. A call that fails has raised the count of faults.
 #![tactic(auto)]
 
+mod append;
+mod calls;
 pub mod desk;
+pub mod memory_desk;
+pub mod memory_sink;
 pub mod sink;
 pub mod standard;
+mod stored;
+#[cfg(test)]
+mod tests;
 pub mod whole_file;
 
 pub use desk::Desk;
+pub use memory_desk::MemoryDesk;
+pub use memory_sink::MemorySink;
 pub use sink::{Sink, write_all};
 pub use standard::{FileDesk, StdSink};
 use thiserror::Error;

@@ -50,7 +50,12 @@ impl From<Memory> for FileFault {
 /// The bytes of a file, which may be at most `most`. Each read is offered at most 4096 bytes.
 ///
 /// After a refusal the file may still be open, and nothing more may be called on a desk that stopped.
-pub fn read_file<D: Desk>(alloc: Global, desk: &mut D, name: &str, most: usize) -> Result<List<u8>, FileFault>
+pub fn read_file<D: Desk>(
+    alloc: Global,
+    desk: &mut D,
+    name: &str,
+    most: usize,
+) -> Result<List<u8>, FileFault>
     requires idle { (D.scene desk.old).mode ≡ Idle }
     requires going { (D.scene desk.old).stopped ≡ false }
     ensures ok { IfOk result (λ bytes. ReadWhole name.now bytes.items (D.scene desk.old) (D.scene desk.new)) }

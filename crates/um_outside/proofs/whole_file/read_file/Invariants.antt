@@ -6,7 +6,7 @@ abbrev pub invariant-pieces : goal.invariant-pieces
 invariant-pieces g l = record {
   so_far : ReadSoFar l.name l.bytes.items (g.D.Desk.scene l.fn.desk) (g.D.Desk.scene l.desk);
   stopped : (g.D.Desk.scene l.desk).stopped ≡ false;
-  size : length l.bytes.items ≤ l.most
+  size : length l.bytes.items ≤ l.most;
 }
 
 abbrev pub decreases-pieces : goal.decreases-pieces

@@ -15,5 +15,5 @@ pieces-preserved g c =
     record {
       so_far = written_more c.args.name.now b at n _ _ _ c.pieces.invariant.so_far took;
       stopped = took.well.stopped ∙ c.pieces.invariant.stopped;
-      within = omega (arith, length-drop at b, within)
+      within = omega (arith, length-drop at b, within);
     }

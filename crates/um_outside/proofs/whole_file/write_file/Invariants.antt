@@ -6,7 +6,7 @@ abbrev pub invariant-pieces : goal.invariant-pieces
 invariant-pieces g l = record {
   so_far : WrittenSoFar l.name (take l.at l.bytes) (g.D.Desk.scene l.fn.desk) (g.D.Desk.scene l.desk);
   stopped : (g.D.Desk.scene l.desk).stopped ≡ false;
-  within : l.at ≤ length l.bytes
+  within : l.at ≤ length l.bytes;
 }
 
 abbrev pub decreases-pieces : goal.decreases-pieces
