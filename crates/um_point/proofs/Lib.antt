@@ -1,0 +1,6 @@
+pub mod ArcSums
+pub mod BoundedSums
+pub mod DeckSizes
+pub mod ObjectiveParts
+pub mod PlaceLemmas
+pub mod Quotients
