@@ -4,3 +4,4 @@ pub mod DeckSizes
 pub mod ObjectiveParts
 pub mod PlaceLemmas
 pub mod Quotients
+pub mod Thresholds

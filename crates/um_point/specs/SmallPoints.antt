@@ -3,7 +3,6 @@ use Rattle.std.specs.Prelude.{◌≡◌, ◌^◌, ◌<◌, ◌≤◌, ℤ, pos, 
 use Rattle.um_model.specs.Values.{DeckValue, ColumnValue, PointValue}
 use Rattle.um_model.specs.WellFormed.{IsWithin}
 use Rattle.um_model.specs.declared.deck.Entry.{Entry}
-use Rattle.um_model.specs.declared.deck.Kind.TheVariants.{Semi}
 
 -- below 2^36 in size
 abbrev pub IsSmall : ℤ → Type 0
@@ -21,7 +20,3 @@ pub record IsSmallColumn (c : ColumnValue) : Type 0 where
   pub few : length c.entries ≤ 512
   pub entries : All (λ (e : Entry). IsWithin (2 ^ 31) e.value) c.entries
   pub cost : IsWithin (2 ^ 31) c.cost
-
--- the column is semicontinuous
-abbrev pub IsSemi : ColumnValue → Type 0
-IsSemi c = (threshold : ℤ) × (c.kind ≡ Semi threshold)

@@ -61,3 +61,18 @@ pub fn integer_holds(deck: &Deck, point: &Point, column: u32) -> bool
         Kind::Semi(_) => true,
     }
 }
+
+/// Whether the column's value is 0 or at least its threshold, where it has one.
+pub fn semi_holds(deck: &Deck, point: &Point, column: u32) -> bool
+    requires inside { column < length deck.now.columns }
+    requires small { IsSmallPoint deck.now (plain_point point.now) }
+    ensures { IsTrue result ↔ HoldsAt (SemiHolds (plain_point point.now)) deck.now.columns column }
+{
+    deck.known();
+    let rules = &deck.columns()[column as usize];
+    match rules.kind {
+        Kind::Semi(threshold) => column_thousandths(deck, point, column).is_zero_or_from(threshold),
+        Kind::Continuous => true,
+        Kind::Integer => true,
+    }
+}

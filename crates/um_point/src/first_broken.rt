@@ -2,11 +2,11 @@
 
 ghost use Rattle.std.specs.Prelude.{◌≡◌, length, [], IsNone, IfSome, ◌↔◌};
 ghost use Rattle.um_model.specs.Values.{plain_point};
-ghost use Rattle.um_model.specs.Feasible.{AllPlaces, RowHolds, EndsHold, IntegerHolds, Feasible};
+ghost use Rattle.um_model.specs.Feasible.{AllPlaces, RowHolds, EndsHold, IntegerHolds, SemiHolds, Feasible};
 ghost use Rattle.um_model.specs.FirstBroken.{IsFirstFailure, IsFirstBroken};
-ghost use Rattle.um_point.specs.SmallPoints.{IsSmallPoint, IsSemi};
+ghost use Rattle.um_point.specs.SmallPoints.{IsSmallPoint};
 
-use crate::columns::{ends_hold, integer_holds};
+use crate::columns::{ends_hold, integer_holds, semi_holds};
 use crate::rows::row_holds;
 use um_deck::Deck;
 use um_model::{Broken, Point};
@@ -64,13 +64,25 @@ fn first_broken_integer(deck: &Deck, point: &Point) -> Option<u32>
     None
 }
 
-/// The first part of the deck that the point breaks, in the order rows, ends, integer columns; the
-/// point satisfies the deck where there is none.
+fn first_broken_semi(deck: &Deck, point: &Point) -> Option<u32>
+    requires { IsSmallPoint deck.now (plain_point point.now) }
+    ensures none { IsNone result ↔ AllPlaces (SemiHolds (plain_point point.now)) deck.now.columns }
+    ensures first { IfSome result (IsFirstFailure (SemiHolds (plain_point point.now)) deck.now.columns) }
+{
+    for column in 0..column_count(deck) {
+        if !semi_holds(deck, point, column) {
+            return Some(column);
+        }
+    }
+    None
+}
+
+/// The first part of the deck that the point breaks, in the order rows, ends, integer columns,
+/// semicontinuous columns; the point satisfies the deck where there is none.
 ///
-/// So far semicontinuous columns and sets are not looked at, and there must be none.
+/// So far sets are not looked at, and there must be none.
 pub fn feasible(deck: &Deck, point: &Point) -> Option<Broken>
     requires small { IsSmallPoint deck.now (plain_point point.now) }
-    requires no_semis { AllPlaces (λ _ c. ¬ IsSemi c) deck.now.columns }
     requires no_sets { deck.now.sets ≡ [] }
     ensures feasible { IsNone result ↔ Feasible deck.now (plain_point point.now) }
     ensures first { IfSome result (IsFirstBroken deck.now (plain_point point.now)) }
@@ -83,6 +95,9 @@ pub fn feasible(deck: &Deck, point: &Point) -> Option<Broken>
     }
     if let Some(column) = first_broken_integer(deck, point) {
         return Some(Broken::Integer(column));
+    }
+    if let Some(column) = first_broken_semi(deck, point) {
+        return Some(Broken::Semi(column));
     }
     None
 }

@@ -1,6 +1,6 @@
 //! Numbers over a denominator, compared without division.
 
-ghost use Rattle.std.specs.Prelude.{◌≡◌, ◌^◌, ◌*ℤ◌, ◌≤ℤ◌, pos, Option, IsTrue, ◌↔◌};
+ghost use Rattle.std.specs.Prelude.{◌≡◌, ◌^◌, ◌*ℤ◌, ◌≤ℤ◌, ◌⊎◌, pos, Option, IsTrue, ◌↔◌};
 ghost use Rattle.std.specs.Option.{ForSome};
 ghost use Rattle.um_model.specs.WellFormed.{IsWithin};
 ghost use Rattle.um_model.specs.Feasible.{Between, IsMultipleOf};
@@ -52,6 +52,15 @@ impl Quotient {
         ensures { IsTrue result ↔ Between low high self.now.den self.now.num }
     {
         self.is_from(low) && self.is_up_to(high)
+    }
+
+    /// Whether the number is 0 or at least the threshold.
+    pub fn is_zero_or_from(&self, threshold: i64) -> bool
+        requires threshold { IsWithin (2 ^ 53) threshold }
+        requires den { IsWithin (2 ^ 72) self.now.den }
+        ensures { IsTrue result ↔ ((self.now.num ≡ pos 0) ⊎ ((threshold *ℤ self.now.den) ≤ℤ self.now.num)) }
+    {
+        self.num == 0 || self.scaled(threshold) <= self.num
     }
 
     pub fn is_whole(&self) -> bool
