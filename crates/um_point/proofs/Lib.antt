@@ -1,0 +1,7 @@
+pub mod ArcSums
+pub mod BoundedSums
+pub mod DeckSizes
+pub mod ObjectiveParts
+pub mod PlaceLemmas
+pub mod Quotients
+pub mod Thresholds

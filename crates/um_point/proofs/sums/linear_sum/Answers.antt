@@ -1,0 +1,23 @@
+use Rattle.std.proofs.Common.{pos, ◌^◌, arith, sym, take, ◌≡◌, ◌∙◌}
+use Rattle.std.proofs.lemmas.List.{take_all}
+use Rattle.um_model.specs.Values.{plain_column}
+use Rattle.um_model.specs.Feasible.{coefficient}
+use Rattle.um_model.specs.declared.deck.Column.{Column}
+use Rattle.um_point.specs.SmallPoints.{IsSmallColumn}
+use Rattle.um_point.proofs.BoundedSums.{dot_step, dot-map}
+use Rattle.um_point.proofs.PlaceLemmas.{image_at}
+use Rattle.um_point.proofs.sums.linear_sum.Goals as goal
+
+pub row_term-sum-requires-clause-column : goal.row_term-sum-requires-clause-column
+row_term-sum-requires-clause-column c = image_at IsSmallColumn plain_column c.args.columns.now c.loop-index.index c.index-columns-index.result c.loop-index-test.true c.index-columns-index.is c.requires.columns
+
+pub loop-index-preserved : goal.loop-index-preserved
+loop-index-preserved c =
+    dot_step (λ (x : Column). coefficient c.args.row (plain_column x)) c.args.columns.now c.args.parts.now 4096 (2 ^ 76) (omega arith) c.requires.few c.requires.beside c.loop-index.index c.index-columns-index.result (pos 0) _ c.row_term-sum.result
+    c.loop-index-test.true c.index-columns-index.is c.loop-index.invariant c.row_term-sum.ensures.value c.row_term-sum.ensures.size
+
+pub returns-clause-value : goal.returns-clause-value
+returns-clause-value c =
+    let all : take c.loop-index.index c.args.columns.now ≡ c.args.columns.now = take_all c.loop-index.index c.args.columns.now c.loop-index-test.false in
+    let so_far = rw all at c.loop-index.invariant.value in
+    so_far ∙ sym (dot-map (coefficient c.args.row) plain_column c.args.columns.now c.args.parts.now)

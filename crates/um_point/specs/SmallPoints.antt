@@ -1,0 +1,22 @@
+-- Points and columns whose numbers are small enough for sums of 128 bits.
+use Rattle.std.specs.Prelude.{◌≡◌, ◌^◌, ◌<◌, ◌≤◌, ℤ, pos, ◌≤ℤ◌, unsigned_abs, length, All}
+use Rattle.um_model.specs.Values.{DeckValue, ColumnValue, PointValue}
+use Rattle.um_model.specs.WellFormed.{IsWithin}
+use Rattle.um_model.specs.declared.deck.Entry.{Entry}
+
+-- below 2^36 in size
+abbrev pub IsSmall : ℤ → Type 0
+IsSmall z = unsigned_abs z < 2 ^ 36
+
+-- a denominator of at least 1 and a part for each column, all of them small
+pub record IsSmallPoint (d : DeckValue) (p : PointValue) : Type 0 where
+  pub den : pos 1 ≤ℤ p.den
+  pub den_size : IsSmall p.den
+  pub parts : length p.parts ≡ length d.columns
+  pub part_sizes : All IsSmall p.parts
+
+-- a column of at most 512 entries, none of them and no cost above 2^31 in size
+pub record IsSmallColumn (c : ColumnValue) : Type 0 where
+  pub few : length c.entries ≤ 512
+  pub entries : All (λ (e : Entry). IsWithin (2 ^ 31) e.value) c.entries
+  pub cost : IsWithin (2 ^ 31) c.cost

@@ -1,0 +1,103 @@
+//! The first part of a deck that a point breaks.
+
+ghost use Rattle.std.specs.Prelude.{◌≡◌, length, [], IsNone, IfSome, ◌↔◌};
+ghost use Rattle.um_model.specs.Values.{plain_point};
+ghost use Rattle.um_model.specs.Feasible.{AllPlaces, RowHolds, EndsHold, IntegerHolds, SemiHolds, Feasible};
+ghost use Rattle.um_model.specs.FirstBroken.{IsFirstFailure, IsFirstBroken};
+ghost use Rattle.um_point.specs.SmallPoints.{IsSmallPoint};
+
+use crate::columns::{ends_hold, integer_holds, semi_holds};
+use crate::rows::row_holds;
+use um_deck::Deck;
+use um_model::{Broken, Point};
+
+fn row_count(deck: &Deck) -> u32
+    ensures { result ≡ length deck.now.rows }
+{
+    deck.known();
+    deck.rows().len() as u32
+}
+
+fn column_count(deck: &Deck) -> u32
+    ensures { result ≡ length deck.now.columns }
+{
+    deck.known();
+    deck.columns().len() as u32
+}
+
+fn first_broken_row(deck: &Deck, point: &Point) -> Option<u32>
+    requires { IsSmallPoint deck.now (plain_point point.now) }
+    ensures none { IsNone result ↔ AllPlaces (RowHolds deck.now (plain_point point.now)) deck.now.rows }
+    ensures first { IfSome result (IsFirstFailure (RowHolds deck.now (plain_point point.now)) deck.now.rows) }
+{
+    for row in 0..row_count(deck) {
+        if !row_holds(deck, point, row) {
+            return Some(row);
+        }
+    }
+    None
+}
+
+fn first_broken_bound(deck: &Deck, point: &Point) -> Option<u32>
+    requires { IsSmallPoint deck.now (plain_point point.now) }
+    ensures none { IsNone result ↔ AllPlaces (EndsHold (plain_point point.now)) deck.now.columns }
+    ensures first { IfSome result (IsFirstFailure (EndsHold (plain_point point.now)) deck.now.columns) }
+{
+    for column in 0..column_count(deck) {
+        if !ends_hold(deck, point, column) {
+            return Some(column);
+        }
+    }
+    None
+}
+
+fn first_broken_integer(deck: &Deck, point: &Point) -> Option<u32>
+    requires { IsSmallPoint deck.now (plain_point point.now) }
+    ensures none { IsNone result ↔ AllPlaces (IntegerHolds (plain_point point.now)) deck.now.columns }
+    ensures first { IfSome result (IsFirstFailure (IntegerHolds (plain_point point.now)) deck.now.columns) }
+{
+    for column in 0..column_count(deck) {
+        if !integer_holds(deck, point, column) {
+            return Some(column);
+        }
+    }
+    None
+}
+
+fn first_broken_semi(deck: &Deck, point: &Point) -> Option<u32>
+    requires { IsSmallPoint deck.now (plain_point point.now) }
+    ensures none { IsNone result ↔ AllPlaces (SemiHolds (plain_point point.now)) deck.now.columns }
+    ensures first { IfSome result (IsFirstFailure (SemiHolds (plain_point point.now)) deck.now.columns) }
+{
+    for column in 0..column_count(deck) {
+        if !semi_holds(deck, point, column) {
+            return Some(column);
+        }
+    }
+    None
+}
+
+/// The first part of the deck that the point breaks, in the order rows, ends, integer columns,
+/// semicontinuous columns; the point satisfies the deck where there is none.
+///
+/// So far sets are not looked at, and there must be none.
+pub fn feasible(deck: &Deck, point: &Point) -> Option<Broken>
+    requires small { IsSmallPoint deck.now (plain_point point.now) }
+    requires no_sets { deck.now.sets ≡ [] }
+    ensures feasible { IsNone result ↔ Feasible deck.now (plain_point point.now) }
+    ensures first { IfSome result (IsFirstBroken deck.now (plain_point point.now)) }
+{
+    if let Some(row) = first_broken_row(deck, point) {
+        return Some(Broken::Row(row));
+    }
+    if let Some(column) = first_broken_bound(deck, point) {
+        return Some(Broken::Bound(column));
+    }
+    if let Some(column) = first_broken_integer(deck, point) {
+        return Some(Broken::Integer(column));
+    }
+    if let Some(column) = first_broken_semi(deck, point) {
+        return Some(Broken::Semi(column));
+    }
+    None
+}
