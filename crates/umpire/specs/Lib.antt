@@ -2,3 +2,5 @@ pub mod Words
 pub mod Lines
 pub mod Statuses
 pub mod Trees
+pub mod Runs
+pub mod Readings

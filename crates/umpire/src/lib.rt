@@ -6,10 +6,15 @@
 //! is written before the text is known, and after a fault of the outside nothing more is called.
 #![tactic(auto)]
 
+pub mod checker;
 pub mod lines;
 pub mod outcome;
+pub mod reading;
+pub mod top;
 pub mod tree_text;
 pub mod words;
 
+pub use checker::Checker;
 pub use outcome::{Outcome, ReadFault, Refusal, Status, TreeFault, TreeWord, WordFault};
+pub use top::run;
 pub use um_model::{Reason, Verdict};

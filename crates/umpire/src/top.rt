@@ -1,0 +1,96 @@
+//! The top call.
+
+ghost use Rattle.std.specs.Prelude.{◌≡◌, false, map, is_some, string_bytes, IfSome, IfOk, IfErr, OnOk};
+ghost use Rattle.um_outside.specs.Scenes.{Idle};
+ghost use Rattle.um_outside.specs.Sinks.{Took, TookFront};
+ghost use Rattle.umpire.specs.Words.{check_files};
+ghost use Rattle.umpire.specs.Runs.{Judged, WasRefused, HasFaulted, OutputFailed, HasFields, WordsJudged, MakesNoFile};
+
+use crate::lines::{refusal_line, verdict_line};
+use crate::outcome::{Outcome, Refusal, Status, WordFault};
+use crate::reading::{Stop, judge};
+use crate::words::check_files;
+use std::alloc::Global;
+use um_model::Verdict;
+use um_num::Memory;
+use um_outside::{Desk, Sink, write_all};
+
+/// Does what the words, behind the program's name, ask for.
+pub fn run<D: Desk, O: Sink>(alloc: Global, words: &[String], desk: &mut D, out: &mut O) -> Outcome
+    requires idle { (D.scene desk.old).mode ≡ Idle }
+    requires going { (D.scene desk.old).stopped ≡ false }
+    requires out_going { (O.told out.old).stopped ≡ false }
+    ensures verdict { IfSome result.verdict (λ v. Judged v result (O.told out.old) (O.told out.new)) }
+    ensures refusal { IfSome result.refusal (λ r. WasRefused r result (O.told out.old) (O.told out.new)) }
+    ensures fault { result.status ≡ Status.Fault → HasFaulted (D.scene desk.old) (D.scene desk.new) (O.told out.old) (O.told out.new) }
+    ensures memory { result.status ≡ Status.Memory → O.told out.new ≡ O.told out.old }
+    ensures files { MakesNoFile (D.scene desk.old) (D.scene desk.new) }
+    ensures words { WordsJudged (is_some (check_files (map string_bytes words.now))) result }
+    ensures fields { HasFields result }
+{
+    let Some(files) = check_files(words) else {
+        return refuse(alloc, out, Refusal::Words(WordFault::Line));
+    };
+    match judge(alloc, desk, &files) {
+        Ok(verdict) => tell(alloc, out, verdict),
+        Err(Stop::Refused(refusal)) => refuse(alloc, out, refusal),
+        Err(Stop::Fault) => ended(Status::Fault),
+        Err(Stop::Memory) => ended(Status::Memory),
+    }
+}
+
+/// An outcome without a text.
+fn ended(status: Status) -> Outcome
+    ensures { result ≡ record { status = status; answer = None; verdict = None; refusal = None } }
+{
+    Outcome {
+        status,
+        answer: None,
+        verdict: None,
+        refusal: None,
+    }
+}
+
+/// Writes the line of a refusal.
+fn refuse<O: Sink>(alloc: Global, out: &mut O, refusal: Refusal) -> Outcome
+{
+    let line = match refusal_line(alloc, &refusal) {
+        Ok(line) => line,
+        Err(Memory) => return ended(Status::Memory),
+    };
+    if write_all(out, line.as_slice()).is_err() {
+        return ended(Status::Fault);
+    }
+    let status = match refusal {
+        Refusal::Words(_) | Refusal::LowTolerance { .. } => Status::Words,
+        Refusal::Deck(_) | Refusal::Tree(_) => Status::Refused,
+    };
+    Outcome {
+        status,
+        answer: None,
+        verdict: None,
+        refusal: Some(refusal),
+    }
+}
+
+/// Writes the line of a verdict.
+fn tell<O: Sink>(alloc: Global, out: &mut O, verdict: Verdict) -> Outcome
+{
+    let line = match verdict_line(alloc, &verdict) {
+        Ok(line) => line,
+        Err(Memory) => return ended(Status::Memory),
+    };
+    if write_all(out, line.as_slice()).is_err() {
+        return ended(Status::Fault);
+    }
+    let status = match verdict {
+        Verdict::Yes => Status::Optimal,
+        Verdict::No { .. } => Status::No,
+    };
+    Outcome {
+        status,
+        answer: None,
+        verdict: Some(verdict),
+        refusal: None,
+    }
+}
