@@ -30,7 +30,7 @@ pub enum Op {
 
 /// The first step whose result is out of range, with its operands.
 #[derive(Clone, Copy, PartialEq, Eq, Debug, Error)]
-#[error("a number needs more than 127 bits")]
+#[error("{op:?} of {left} and {right} is out of range")]
 pub struct Wide {
     pub op: Op,
     pub left: i128,
