@@ -2,8 +2,6 @@
 
 ghost use Rattle.std.specs.Prelude.{
   ◌≡◌,
-  ◌*◌,
-  ◌%◌,
   pos,
   ◌+ℤ◌,
   ◌*ℤ◌,
