@@ -2,8 +2,6 @@
 
 ghost use Rattle.std.specs.Prelude.{
   ◌≡◌,
-  ◌*◌,
-  ◌%◌,
   pos,
   ◌+ℤ◌,
   ◌*ℤ◌,
@@ -30,7 +28,7 @@ pub enum Op {
 
 /// The first step whose result is out of range, with its operands.
 #[derive(Clone, Copy, PartialEq, Eq, Debug, Error)]
-#[error("a number needs more than 127 bits")]
+#[error("{op:?} of {left} and {right} is out of range")]
 pub struct Wide {
     pub op: Op,
     pub left: i128,
@@ -56,8 +54,33 @@ pub fn step(op: Op, left: i128, right: i128) -> Result<i128, Wide>
     }
 }
 
-/// The greatest common divisor of two sizes, by Euclid's steps.
+/// The greatest common divisor of two sizes.
 fn divisor(a: u128, b: u128) -> u128
+    ensures { IsGcd a b result }
+{
+    // Most sizes are short, and their rests cost a fraction of what long ones do.
+    match (u64::try_from(a), u64::try_from(b)) {
+        (Ok(x), Ok(y)) => u128::from(short_divisor(x, y)),
+        _ => long_divisor(a, b),
+    }
+}
+
+/// Euclid's steps in 64 bits.
+fn short_divisor(a: u64, b: u64) -> u64
+    ensures { IsGcd a b result }
+{
+    let mut x = a;
+    let mut y = b;
+    'steps: while y != 0 {
+        let rest = x % y;
+        x = y;
+        y = rest;
+    }
+    x
+}
+
+/// Euclid's steps in 128 bits.
+fn long_divisor(a: u128, b: u128) -> u128
     ensures { IsGcd a b result }
 {
     let mut x = a;
