@@ -1,5 +1,5 @@
 -- What reading a deck and a tree does to a desk, and why there may be no verdict.
-use Rattle.std.specs.Prelude.{◌≡◌, false}
+use Rattle.std.specs.Prelude.{◌≡◌, ◌≤◌, false}
 use Rattle.um_outside.specs.Scenes.{Scene, Idle}
 use Rattle.um_outside.specs.Desks.{Faulted}
 use Rattle.um_deck.specs.declared.fault.Fault.{Fault}
@@ -17,6 +17,7 @@ use Rattle.umpire.specs.Runs.{MakesNoFile, IsNoWantOfMemory, refusal_status}
 pub record WentOn (s t : Scene) : Type 0 where
   pub idle : t.mode ≡ Idle
   pub going : t.stopped ≡ false
+  pub faults : s.faults ≤ t.faults
   pub files : MakesNoFile s t
 
 -- a file was refused

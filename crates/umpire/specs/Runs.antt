@@ -64,10 +64,14 @@ pub record OutputFailed (s t : SinkScene) : Type 0 where
   pub due : IsDue text
   pub written : TookFront text s t
 
--- the outside failed: the desk, and then nothing was written; or the output
-pub data HasFaulted : Scene → Scene → SinkScene → SinkScene → Type 0 where
-  of_desk : (desk_before desk_after : Scene) (sink : SinkScene) → Faulted desk_before desk_after → HasFaulted desk_before desk_after sink sink
-  of_sink : (desk_before desk_after : Scene) (sink_before sink_after : SinkScene) → OutputFailed sink_before sink_after → HasFaulted desk_before desk_after sink_before sink_after
+-- the desk failed, and then nothing was written
+pub record DeskFailed (desk_before desk_after : Scene) (s t : SinkScene) : Type 0 where
+  pub fault : Faulted desk_before desk_after
+  pub unwritten : t ≡ s
+
+-- the outside failed: the desk or the output
+abbrev pub HasFaulted : Scene → Scene → SinkScene → SinkScene → Type 0
+HasFaulted desk_before desk_after s t = DeskFailed desk_before desk_after s t ⊎ OutputFailed s t
 
 -- ---- the fields of an outcome
 
@@ -100,6 +104,10 @@ pub record HasFields (o : Outcome) : Type 0 where
   pub answer : o.answer ≡ None
   pub verdict : is_some o.verdict ≡ has_verdict o.status
   pub refusal : is_some o.refusal ≡ has_refusal o.status
+
+-- the call ended as this refusal says, or the output failed, or no memory was found for the line
+pub record EndsAs (wanted : Status) (o : Outcome) : Type 0 where
+  pub status : (o.status ≡ wanted) ⊎ ((o.status ≡ status.Fault) ⊎ (o.status ≡ status.Memory))
 
 -- the words are refused exactly where they are no command, or no memory is found for the line, or the output fails
 pub record WordsJudged (is_command : Bool) (o : Outcome) : Type 0 where

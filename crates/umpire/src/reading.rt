@@ -44,9 +44,17 @@ pub fn judge<D: Desk>(alloc: Global, desk: &mut D, files: &CheckFiles<'_>) -> Re
     ensures err { IfErr result (λ stop. WasStopped stop (D.scene desk.old) (D.scene desk.new)) }
 {
     let deck = read_deck(alloc, desk, files.deck)?;
-    let answer = read_tree(alloc, desk, &deck, files.tree)?;
-    let mut checker = Checker::new(alloc, &deck)?;
-    Ok(checker.verdict(&answer))
+    match read_tree(alloc, desk, &deck, files.tree) {
+        Ok(answer) => check(alloc, &deck, &answer),
+        Err(stop) => Err(stop),
+    }
+}
+
+fn check(alloc: Global, deck: &Deck, answer: &Answer) -> Result<Verdict, Stop>
+    ensures { IfErr result (λ stop. stop ≡ Stop.Memory) }
+{
+    let mut checker = Checker::new(alloc, deck)?;
+    Ok(checker.verdict(answer))
 }
 
 /// A file that is too long is in a form that is not read yet.

@@ -1,10 +1,9 @@
 //! The top call.
 
-ghost use Rattle.std.specs.Prelude.{◌≡◌, false, map, is_some, string_bytes, IfSome, IfOk, IfErr, OnOk};
+ghost use Rattle.std.specs.Prelude.{◌≡◌, false, map, is_some, string_bytes, IfSome, None};
 ghost use Rattle.um_outside.specs.Scenes.{Idle};
-ghost use Rattle.um_outside.specs.Sinks.{Took, TookFront};
 ghost use Rattle.umpire.specs.Words.{check_files};
-ghost use Rattle.umpire.specs.Runs.{Judged, WasRefused, HasFaulted, OutputFailed, HasFields, WordsJudged, MakesNoFile};
+ghost use Rattle.umpire.specs.Runs.{Judged, WasRefused, HasFaulted, OutputFailed, HasFields, WordsJudged, MakesNoFile, IsNoWantOfMemory, EndsAs, refusal_status, verdict_status};
 
 use crate::lines::{refusal_line, verdict_line};
 use crate::outcome::{Outcome, Refusal, Status, WordFault};
@@ -53,44 +52,71 @@ fn ended(status: Status) -> Outcome
 
 /// Writes the line of a refusal.
 fn refuse<O: Sink>(alloc: Global, out: &mut O, refusal: Refusal) -> Outcome
+    requires going { (O.told out.old).stopped ≡ false }
+    requires cause { IsNoWantOfMemory refusal }
+    ensures verdict { result.verdict ≡ None }
+    ensures refusal { IfSome result.refusal (λ r. WasRefused r result (O.told out.old) (O.told out.new)) }
+    ensures fault { result.status ≡ Status.Fault → OutputFailed (O.told out.old) (O.told out.new) }
+    ensures memory { result.status ≡ Status.Memory → O.told out.new ≡ O.told out.old }
+    ensures ends { EndsAs (refusal_status refusal) result }
+    ensures fields { HasFields result }
 {
     let line = match refusal_line(alloc, &refusal) {
         Ok(line) => line,
         Err(Memory) => return ended(Status::Memory),
     };
-    if write_all(out, line.as_slice()).is_err() {
-        return ended(Status::Fault);
-    }
-    let status = match refusal {
-        Refusal::Words(_) | Refusal::LowTolerance { .. } => Status::Words,
-        Refusal::Deck(_) | Refusal::Tree(_) => Status::Refused,
-    };
-    Outcome {
-        status,
-        answer: None,
-        verdict: None,
-        refusal: Some(refusal),
+    match write_all(out, line.as_slice()) {
+        Ok(()) => Outcome {
+            status: refusal_status(&refusal),
+            answer: None,
+            verdict: None,
+            refusal: Some(refusal),
+        },
+        Err(_) => ended(Status::Fault),
     }
 }
 
 /// Writes the line of a verdict.
 fn tell<O: Sink>(alloc: Global, out: &mut O, verdict: Verdict) -> Outcome
+    requires going { (O.told out.old).stopped ≡ false }
+    ensures verdict { IfSome result.verdict (λ v. Judged v result (O.told out.old) (O.told out.new)) }
+    ensures refusal { result.refusal ≡ None }
+    ensures fault { result.status ≡ Status.Fault → OutputFailed (O.told out.old) (O.told out.new) }
+    ensures memory { result.status ≡ Status.Memory → O.told out.new ≡ O.told out.old }
+    ensures ends { EndsAs (verdict_status verdict) result }
+    ensures fields { HasFields result }
 {
     let line = match verdict_line(alloc, &verdict) {
         Ok(line) => line,
         Err(Memory) => return ended(Status::Memory),
     };
-    if write_all(out, line.as_slice()).is_err() {
-        return ended(Status::Fault);
+    match write_all(out, line.as_slice()) {
+        Ok(()) => Outcome {
+            status: verdict_status(&verdict),
+            answer: None,
+            verdict: Some(verdict),
+            refusal: None,
+        },
+        Err(_) => ended(Status::Fault),
     }
-    let status = match verdict {
+}
+
+fn refusal_status(refusal: &Refusal) -> Status
+    ensures { result ≡ refusal_status refusal.now }
+{
+    match refusal {
+        Refusal::Words(_) => Status::Words,
+        Refusal::LowTolerance { .. } => Status::Words,
+        Refusal::Deck(_) => Status::Refused,
+        Refusal::Tree(_) => Status::Refused,
+    }
+}
+
+fn verdict_status(verdict: &Verdict) -> Status
+    ensures { result ≡ verdict_status verdict.now }
+{
+    match verdict {
         Verdict::Yes => Status::Optimal,
         Verdict::No { .. } => Status::No,
-    };
-    Outcome {
-        status,
-        answer: None,
-        verdict: Some(verdict),
-        refusal: None,
     }
 }
