@@ -1,5 +1,5 @@
 -- Desks in memory that are as they were, and then changed.
-use Rattle.std.proofs.Common.{◌≡◌, ◌≢◌, ℕ, List, ◌∙◌, Result, Ok, Err, OnOk, OnErr}
+use Rattle.std.proofs.Common.{ℕ, List, ◌∙◌, Result, Ok, Err, OnOk, OnErr}
 use Rattle.um_outside.specs.MemoryDesks.{SameState, SameDesk, FileSet, RoomSet}
 use Rattle.um_outside.specs.declared.memory_desk.MemoryDesk.{MemoryDesk}
 

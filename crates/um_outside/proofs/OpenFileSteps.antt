@@ -1,11 +1,11 @@
 -- The file that is open on a desk in memory, where it is opened, read, made or written.
-use Rattle.std.proofs.Common.{◌≡◌, ◌≢◌, ℕ, zero, suc, ◌+◌, ◌-◌, ◌<◌, ◌≤◌, min, Bool, true, false, cond, List, [], ◌∷◌, ◌++◌, take, drop, length, Option, Some, None, option_map, option_and_then, ◌||◌, is_none, unwrap_or, slice_get, slice_set, length-append, length-take, length-drop, arith, refl, ap, sym, ◌∙◌, subst, IsSomeAnd}
+use Rattle.std.proofs.Common.{◌≡◌, ℕ, zero, suc, ◌+◌, ◌-◌, ◌<◌, ◌≤◌, min, Bool, true, false, cond, List, [], ◌∷◌, ◌++◌, take, drop, length, Option, Some, None, option_map, option_and_then, ◌||◌, is_none, unwrap_or, slice_get, slice_set, length-append, length-take, length-drop, arith, refl, ap, sym, ◌∙◌, subst, IsSomeAnd}
 use Rattle.std.proofs.Math.Seq.{take-add}
 use Rattle.std.proofs.lemmas.List.{take_all}
 use Rattle.std.specs.Bool.{Decides}
 use Rattle.std.specs.Prelude.{◌==◌}
 use Rattle.std.proofs.lemmas.Bool.Decides.{Decides-eqb, not_from_Decides}
-use Rattle.um_outside.specs.Scenes.{Mode, Idle, Reading, Writing, IsReading, IsWriting, IsOpen}
+use Rattle.um_outside.specs.Scenes.{Mode, Idle, Reading, Writing, IsReading, IsWriting}
 use Rattle.um_outside.specs.Desks.{IsFront, ChangesOnly, ChangesWritten}
 use Rattle.um_outside.specs.Stores.{place_of, files_in, name_at, contents, capacity_of, greatest_capacity}
 use Rattle.um_num.specs.Listed.{Listed}

@@ -1,8 +1,8 @@
 -- Pieces that a desk gives one after another.
-use Rattle.std.proofs.Common.{◌≡◌, ℕ, ◌+◌, ◌<◌, ◌≤◌, Bool, true, false, List, [], ◌++◌, take, drop, length, length-take, Option, Some, None, option_map, IfSome, IsSomeAnd, arith, ap, sym, ◌∙◌, append-nil, refl, subst}
+use Rattle.std.proofs.Common.{◌≡◌, ℕ, ◌<◌, List, [], ◌++◌, length, length-take, Option, Some, None, option_map, IfSome, IsSomeAnd, arith, ap, sym, ◌∙◌, append-nil, refl, subst}
 use Rattle.um_outside.specs.Scenes.{Scene, Files, Mode, Reading}
-use Rattle.um_outside.specs.Desks.{Opened, Gave, WentWell, IsFront, GivenAndFile}
-use Rattle.um_outside.proofs.Pieces.{set_then_added, is_some_of}
+use Rattle.um_outside.specs.Desks.{Opened, Gave, WentWell, IsFront}
+use Rattle.um_outside.proofs.Pieces.{set_then_added}
 
 -- The file of this name is open, and these bytes of it were given.
 pub record ReadSoFar (name bytes : List ℕ) (s t : Scene) : Type 0 where

@@ -1,5 +1,5 @@
 -- Pieces that a sink takes one after another.
-use Rattle.std.proofs.Common.{◌≡◌, ℕ, ◌+◌, ◌≤◌, List, ◌++◌, take, drop, length, arith, ◌∙◌}
+use Rattle.std.proofs.Common.{ℕ, ◌+◌, List, take, drop, arith, ◌∙◌}
 use Rattle.std.proofs.Math.Seq.{take-add}
 use Rattle.um_outside.specs.Sinks.{SinkScene, Took, TookFirst}
 use Rattle.um_outside.proofs.Pieces.{added_twice}

@@ -1,8 +1,8 @@
 -- Pieces that a desk takes one after another.
-use Rattle.std.proofs.Common.{◌≡◌, ℕ, ◌+◌, ◌<◌, ◌≤◌, List, [], ◌++◌, take, drop, length, Option, Some, None, option_map, IfSome, IsSomeAnd, arith, ap, sym, ◌∙◌, subst}
+use Rattle.std.proofs.Common.{◌≡◌, ℕ, ◌+◌, List, [], take, drop, Option, Some, None, option_map, IfSome, IsSomeAnd, arith, ap, ◌∙◌, subst}
 use Rattle.std.proofs.Math.Seq.{take-add}
 use Rattle.um_outside.specs.Scenes.{Scene, Files, Mode, Writing}
-use Rattle.um_outside.specs.Desks.{Created, Took, WentWell, ChangesOnly, ChangesWritten, PutAndFile, ClosedWell, Closed}
+use Rattle.um_outside.specs.Desks.{Created, Took, WentWell, ChangesOnly, ChangesWritten, ClosedWell}
 use Rattle.um_outside.proofs.Pieces.{set_then_added, is_some_of}
 
 -- The file of this name is open, and these bytes of it were put.

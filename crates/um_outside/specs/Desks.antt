@@ -1,7 +1,7 @@
 -- What each call on a desk does: the scene before, the answer, the scene after.
 use Rattle.std.specs.Prelude.{◌≡◌, ◌≢◌, ℕ, ◌<◌, ◌≤◌, true, List, [], ◌++◌, take, length, Option, Some, None, option_map, Result, MatchResult, IfSome, IsSomeAnd}
 use Rattle.um_outside.specs.declared.Failed.{Failed}
-use Rattle.um_outside.specs.Scenes.{Scene, Mode, Idle, Reading, Writing, Files, IsReading}
+use Rattle.um_outside.specs.Scenes.{Scene, Mode, Idle, Reading, Writing, Files}
 
 -- The call went well: the count has not fallen, and the flag is as it was.
 pub record WentWell (s t : Scene) : Type 0 where

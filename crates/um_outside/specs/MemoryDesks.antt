@@ -1,6 +1,6 @@
 -- What a desk in memory tells.
-use Rattle.std.specs.Prelude.{◌≡◌, ◌≢◌, ℕ, ◌-◌, Bool, cond, List, [], ◌∷◌, ◌++◌, length, Option, Some, None, option_map, option_and_then, unwrap_or, slice_get}
-use Rattle.um_outside.specs.Scenes.{Scene, Mode}
+use Rattle.std.specs.Prelude.{◌≡◌, ◌≢◌, ℕ, ◌-◌, Bool, cond, List, [], ◌∷◌, ◌++◌, length, Option, Some, None, option_and_then, unwrap_or, slice_get}
+use Rattle.um_outside.specs.Scenes.{Scene}
 use Rattle.um_outside.specs.Stores.{files_in, room_in, name_at, contents}
 use Rattle.um_outside.specs.OpenFiles.{mode_from}
 use Rattle.um_outside.specs.Numbered.{next_number, is_among}

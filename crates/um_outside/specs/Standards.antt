@@ -1,5 +1,5 @@
 -- What the desk over the system's files tells: neither bytes nor files.
-use Rattle.std.specs.Prelude.{Some, None, Bool, cond}
+use Rattle.std.specs.Prelude.{None, Bool, cond}
 use Rattle.um_outside.specs.Scenes.{Scene, Mode, Idle, Reading, Writing}
 use Rattle.um_outside.specs.declared.standard.OpenFile.{OpenFile}
 use Rattle.um_outside.specs.declared.standard.OpenFile.TheVariants as opened

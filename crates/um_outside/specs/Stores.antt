@@ -1,6 +1,6 @@
 -- The files that a desk in memory keeps, by their names. A name stands at most once among them; if it stood twice,
 -- the first place would count.
-use Rattle.std.specs.Prelude.{◌≡◌, ℕ, ◌+◌, ◌≤◌, max, Bool, true, cond, List, [], ◌∷◌, take, length, Option, Some, None, option_map, option_and_then, slice_get, bytes_eq}
+use Rattle.std.specs.Prelude.{ℕ, ◌+◌, max, cond, List, [], ◌∷◌, length, Option, Some, None, option_map, option_and_then, slice_get, bytes_eq}
 use Rattle.std.specs.List.{position}
 use Rattle.um_outside.specs.Scenes.{Files}
 use Rattle.um_outside.specs.declared.stored.Stored.{Stored}

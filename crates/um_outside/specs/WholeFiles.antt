@@ -1,5 +1,5 @@
 -- What reading and writing a whole file does to a desk.
-use Rattle.std.specs.Prelude.{◌≡◌, ℕ, ◌<◌, ◌≤◌, List, length, Option, Some, None, option_map, IfSome, IsSomeAnd}
+use Rattle.std.specs.Prelude.{◌≡◌, ℕ, ◌<◌, List, length, Some, option_map, IfSome, IsSomeAnd}
 use Rattle.um_outside.specs.Scenes.{Scene, Idle}
 use Rattle.um_outside.specs.Desks.{WentWell, Faulted, ChangesOnly}
 

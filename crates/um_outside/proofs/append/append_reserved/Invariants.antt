@@ -1,4 +1,4 @@
-use Rattle.std.proofs.Common.{◌≡◌, ◌+◌, ◌≤◌, ◌++◌, length, take}
+use Rattle.std.proofs.Common.{◌≡◌, ◌+◌, ◌++◌, take}
 use Rattle.um_outside.proofs.append.append_reserved.Given as goal
 
 abbrev pub invariant-loop-byte : goal.invariant-loop-byte

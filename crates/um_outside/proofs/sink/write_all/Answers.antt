@@ -1,4 +1,4 @@
-use Rattle.std.proofs.Common.{rules, arith, ◌≡◌, ◌-◌, take, drop, length, length-drop}
+use Rattle.std.proofs.Common.{arith, ◌≡◌, ◌-◌, take, drop, length, length-drop}
 use Rattle.std.proofs.lemmas.Grind.{common_steps}
 use Rattle.um_outside.specs.Sinks.{TookFirst}
 use Rattle.um_outside.proofs.SinkPieces.{took_more}

@@ -1,4 +1,4 @@
-use Rattle.std.proofs.Common.{◌≡◌, ◌≤◌, ◌-◌, length, take, ◌++◌, false}
+use Rattle.std.proofs.Common.{◌≤◌, ◌-◌, length, take}
 use Rattle.um_outside.specs.Sinks.{Took}
 use Rattle.um_outside.proofs.sink.write_all.Given as goal
 

@@ -1,4 +1,4 @@
-use Rattle.std.proofs.Common.{rules, arith, ◌≡◌, ◌∙◌, ◌+◌, ℕ, List, Option, Some, None, length, ap, sym, refl}
+use Rattle.std.proofs.Common.{rules, arith, ◌≡◌, ◌∙◌, ℕ, List, Some, None, length, ap, sym, refl}
 use Rattle.um_num.specs.Listed.{Listed}
 use Rattle.um_outside.specs.Stores.{place_of, contents}
 use Rattle.um_outside.specs.declared.stored.Stored.{Stored}

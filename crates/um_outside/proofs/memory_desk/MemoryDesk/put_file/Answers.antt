@@ -1,7 +1,6 @@
-use Rattle.std.proofs.Common.{rules, arith, ◌≡◌, ◌∙◌, ◌+◌, ◌≤◌, ℕ, List, Option, Some, true, length, max, ap, sym, refl, subst}
+use Rattle.std.proofs.Common.{arith, ◌≡◌, ◌∙◌, ℕ, List, Some, length, max, ap, refl}
 use Rattle.um_num.specs.Listed.{Listed}
-use Rattle.um_outside.specs.Stores.{place_of, contents, name_at, capacity_of}
-use Rattle.um_outside.specs.OpenFiles.{mode_from}
+use Rattle.um_outside.specs.Stores.{place_of, name_at}
 use Rattle.um_outside.specs.declared.stored.Stored.{Stored}
 use Rattle.um_outside.proofs.StoredFiles.{at_index, place_below, fits_changed, kept_in, place_of-set, slice_get-set_same, file_at, other_files}
 use Rattle.um_outside.proofs.OpenFileSteps.{is_idle, idle_not_busy, mode_idle}

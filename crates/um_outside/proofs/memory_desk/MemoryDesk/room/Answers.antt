@@ -1,9 +1,9 @@
-use Rattle.std.proofs.Common.{rules, arith, ◌≡◌, ◌∙◌, ◌+◌, ◌≤◌, ℕ, List, Option, Some, option_and_then, length, ap, sym, refl, subst}
+use Rattle.std.proofs.Common.{arith, ◌≡◌, ◌∙◌, ℕ, List, Option, Some, option_and_then, ap, refl}
 use Rattle.um_num.specs.Listed.{Listed}
-use Rattle.um_outside.specs.Stores.{place_of, contents, name_at, capacity_of}
+use Rattle.um_outside.specs.Stores.{place_of, contents}
 use Rattle.um_outside.specs.OpenFiles.{mode_from}
 use Rattle.um_outside.specs.declared.stored.Stored.{Stored}
-use Rattle.um_outside.proofs.StoredFiles.{at_index, place_below, within_set, fits_changed, greatest-get, kept_in, room_at, stored_in-set_same, other_rooms}
+use Rattle.um_outside.proofs.StoredFiles.{at_index, place_below, within_set, fits_changed, greatest-get, kept_in, stored_in-set_same, other_rooms}
 use Rattle.um_outside.proofs.OpenFileSteps.{room_open, kept_name, contents_same}
 use Rattle.um_outside.proofs.DeskSteps.{same_desk, room_set, on_ok, on_err}
 use Rattle.um_outside.proofs.memory_desk.MemoryDesk.room.Goals as goal

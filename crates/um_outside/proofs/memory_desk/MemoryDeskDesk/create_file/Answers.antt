@@ -1,9 +1,9 @@
-use Rattle.std.proofs.Common.{rules, arith, ◌≡◌, ◌∙◌, ◌+◌, ◌≤◌, ℕ, List, [], Option, Some, true, length, unwrap_or, ap, sym, refl, subst}
+use Rattle.std.proofs.Common.{rules, arith, ◌≡◌, ◌∙◌, ◌+◌, ◌≤◌, ℕ, [], Option, Some, length, unwrap_or, ap, sym, refl, subst}
 use Rattle.um_num.specs.Listed.{Listed}
 use Rattle.um_outside.specs.Scenes.{Writing}
-use Rattle.um_outside.specs.Stores.{place_of, files_in, room_in}
+use Rattle.um_outside.specs.Stores.{place_of, room_in}
 use Rattle.um_outside.specs.declared.stored.Stored.{Stored}
-use Rattle.um_outside.proofs.StoredFiles.{at_index, kept_in, within_set, place_below, room_at, other_files, place_of-set, slice_get-set_same, file_at, name_of_place}
+use Rattle.um_outside.proofs.StoredFiles.{at_index, kept_in, within_set, place_below, room_at, other_files, place_of-set, slice_get-set_same, file_at}
 use Rattle.um_outside.proofs.OpenFileSteps.{fits_kept, created, name_kept, name_at_place}
 use Rattle.um_outside.proofs.memory_desk.MemoryDeskDesk.create_file.Goals as goal
 

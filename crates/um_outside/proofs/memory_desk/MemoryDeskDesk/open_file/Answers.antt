@@ -1,4 +1,4 @@
-use Rattle.std.proofs.Common.{rules, ◌≡◌, ◌∙◌, ℕ, List, Option, Some, false, is_none, ap, sym, refl}
+use Rattle.std.proofs.Common.{rules, ◌≡◌, ℕ, Some, false, is_none, ap, sym, refl}
 use Rattle.um_num.specs.Listed.{Listed}
 use Rattle.um_outside.specs.Scenes.{Reading}
 use Rattle.um_outside.specs.Stores.{place_of, files_in}

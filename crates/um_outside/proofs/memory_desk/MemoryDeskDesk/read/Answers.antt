@@ -1,4 +1,4 @@
-use Rattle.std.proofs.Common.{rules, arith, ◌≡◌, ◌∙◌, ◌+◌, ◌-◌, ◌≤◌, ◌++◌, ℕ, List, [], Option, Some, min, take, drop, length, length-take, length-drop, get_or, ap, sym, refl, subst}
+use Rattle.std.proofs.Common.{rules, arith, ◌≡◌, ◌∙◌, ◌-◌, ◌≤◌, ◌++◌, ℕ, List, Some, min, take, drop, length, length-take, length-drop, get_or, ap, sym, refl, subst}
 use Rattle.um_num.specs.Listed.{Listed}
 use Rattle.um_outside.specs.Desks.{IsFront}
 use Rattle.um_outside.specs.Stores.{name_at, files_in}

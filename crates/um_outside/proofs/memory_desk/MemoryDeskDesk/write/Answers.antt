@@ -1,4 +1,4 @@
-use Rattle.std.proofs.Common.{rules, arith, ◌≡◌, ◌≤◌, ℕ, List, Option, Some, take, length, length-take, ap, refl, ◌∙◌}
+use Rattle.std.proofs.Common.{rules, arith, ◌≡◌, ◌≤◌, ℕ, List, Option, Some, take, length, length-take, ap, refl}
 use Rattle.um_num.specs.Listed.{Listed}
 use Rattle.um_outside.specs.Stores.{name_at}
 use Rattle.um_outside.specs.OpenFiles.{mode_from}
