@@ -8,6 +8,7 @@
 
 pub mod branch;
 pub mod deck;
+pub mod laws;
 pub mod multipliers;
 pub mod point;
 pub mod tree;
