@@ -1,8 +1,12 @@
 pub mod Cover
 pub mod Curves
 pub mod Duality
+pub mod Examples
 pub mod Exchange
+pub mod Exclusion
 pub mod Leaves
+pub mod Moving
 pub mod Places
 pub mod Rounding
+pub mod Scaling
 pub mod VoidBoxes

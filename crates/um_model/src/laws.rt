@@ -1,6 +1,6 @@
 //! Functions that do nothing: each has a law as its contract, so that the law is sure to be proved.
 
-ghost use Rattle.um_model.specs.Laws.{RootLaw, CoverLaw, VoidBoxLaw, BoundLaw, ClosedLeafLaw, EmptyLeafLaw};
+ghost use Rattle.um_model.specs.Laws.{RootLaw, CoverLaw, VoidBoxLaw, BoundLaw, ClosedLeafLaw, EmptyLeafLaw, ExclusionLaw, RayLaw, ScalingLaw};
 
 /// Each feasible point is in the root box.
 pub fn root_law()
@@ -30,4 +30,19 @@ pub fn closed_leaf_law()
 /// A box that multipliers empty has no feasible point.
 pub fn empty_leaf_law()
     ensures { EmptyLeafLaw }
+{}
+
+/// The average split of a set leaves the point that breaks its rule out of both children.
+pub fn exclusion_law()
+    ensures { ExclusionLaw }
+{}
+
+/// A feasible point moved along a ray stays feasible, and its objective falls.
+pub fn ray_law()
+    ensures { RayLaw }
+{}
+
+/// What is said of a point does not depend on a common factor of its numbers.
+pub fn scaling_law()
+    ensures { ScalingLaw }
 {}
