@@ -1,3 +1,4 @@
+pub mod BrokenParts
 pub mod Cover
 pub mod Curves
 pub mod Duality
@@ -6,6 +7,8 @@ pub mod Exchange
 pub mod Exclusion
 pub mod Leaves
 pub mod Moving
+pub mod Nearest
+pub mod Objectives
 pub mod Places
 pub mod Rounding
 pub mod Scaling

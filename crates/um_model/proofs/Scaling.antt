@@ -102,11 +102,11 @@ is_times x n d m h =
 pub reduce_common : (n : ℤ) (d m : ℕ) → 0 < d → 0 < m → reduce (pos m *ℤ n) (m * d) ≡ reduce n d
 reduce_common n d m hd hm = same_value (reduce (pos m *ℤ n) (m * d)) (reduce n d) (pos m *ℤ n) (m * d) (times_pos m d hm hd) (is_reduce (pos m *ℤ n) (m * d) (times_pos m d hm hd)) (is_times (reduce n d) n d m (is_reduce n d hd))
 
-square_abs : (k : ℤ) → pos 1 ≤ℤ k → pos (unsigned_abs k * unsigned_abs k) ≡ k *ℤ k
+pub square_abs : (k : ℤ) → pos 1 ≤ℤ k → pos (unsigned_abs k * unsigned_abs k) ≡ k *ℤ k
 square_abs (pos n) h = sym (pos-*ℤ-pos n n)
 square_abs (negsuc n) h = absurd (omega (arith, ints))
 
-abs_up : (k : ℤ) → pos 1 ≤ℤ k → 0 < unsigned_abs k
+pub abs_up : (k : ℤ) → pos 1 ≤ℤ k → 0 < unsigned_abs k
 abs_up (pos n) h = omega (arith, ints)
 abs_up (negsuc n) h = absurd (omega (arith, ints))
 

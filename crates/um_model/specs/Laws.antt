@@ -1,13 +1,16 @@
 -- The laws that make a checked tree a proof.
-use Rattle.std.specs.Prelude.{◌≡◌, ℕ, ℤ, pos, ◌*ℤ◌, ◌≤ℤ◌, ◌⊎◌, ◌↔◌, List, map}
+use Rattle.std.specs.Prelude.{◌≡◌, ℕ, ◌<◌, ◌≤◌, ℤ, pos, ◌+ℤ◌, ◌-ℤ◌, ◌*ℤ◌, ◌≤ℤ◌, ◌<ℤ◌, unsigned_abs, ◌⊎◌, ◌↔◌, List, map}
 use Rattle.um_laws.specs.Rational.{Rational}
 use Rattle.um_model.specs.Values.{DeckValue, SetValue, PointValue, MultipliersValue}
 use Rattle.um_model.specs.WellFormed.{AtPlace, IsDeck}
 use Rattle.um_model.specs.Feasible.{part, member_parts, Feasible}
-use Rattle.um_model.specs.Objective.{objective, objective_times, Beats, IsBelow}
+use Rattle.um_model.specs.Objective.{objective, objective_times, HasObjective, Beats, IsBelow}
 use Rattle.um_model.specs.Boxes.{BoxValue, InBox, ZeroOutside, root, span_at, IsVoid}
 use Rattle.um_model.specs.Branches.{Fits, left, right}
-use Rattle.um_model.specs.LeafValue.{leaf_value, Closes, Empties}
+use Rattle.um_model.specs.LeafValue.{leaf_value, leaf_bound, Closes, Empties, half_slope, nearest}
+use Rattle.um_model.specs.FirstBroken.{IsFirstBroken}
+use Rattle.um_model.specs.Rounding.{floor_div, ceil_div}
+use Rattle.um_model.specs.declared.point.Broken.{Broken}
 use Rattle.um_model.specs.Rays.{Ray, moved}
 use Rattle.um_model.specs.AverageSplit.{IsAverageSplit}
 use Rattle.um_model.specs.declared.branch.Branch.{Branch}
@@ -26,6 +29,12 @@ abbrev pub BoundLaw : Type 0
 BoundLaw =
     (d : DeckValue) (b : BoxValue) (y : MultipliersValue) (value : ℤ) (p : PointValue) → pos 0 ≤ℤ y.y0 → leaf_value d b y ≡ Value value → Feasible d p → InBox d b p
     → (value *ℤ (p.den *ℤ p.den)) ≤ℤ (pos 1000 *ℤ y.y0 *ℤ objective_times d p)
+
+-- In other words: no feasible point of a box has an objective below the leaf's bound.
+abbrev pub LeafBoundLaw : Type 0
+LeafBoundLaw =
+    (d : DeckValue) (b : BoxValue) (y : MultipliersValue) (value : ℤ) (p : PointValue) → pos 0 <ℤ y.y0 → leaf_value d b y ≡ Value value → Feasible d p → InBox d b p
+    → ¬ Beats d p (leaf_bound d y.y0 value) (pos 0)
 
 -- No feasible point of a closed box beats the value at which it is closed.
 abbrev pub ClosedLeafLaw : Type 0
@@ -65,3 +74,24 @@ pub record IsSamePoint (d : DeckValue) (p q : PointValue) : Type 0 where
 
 abbrev pub ScalingLaw : Type 0
 ScalingLaw = (d : DeckValue) (p : PointValue) (k : ℤ) → pos 1 ≤ℤ p.den → pos 1 ≤ℤ k → IsSamePoint d p (scaled k p)
+
+-- A point has one objective.
+abbrev pub ObjectiveLaw : Type 0
+ObjectiveLaw = (d : DeckValue) (p : PointValue) (v : Rational) → pos 1 ≤ℤ p.den → HasObjective d p v ↔ (objective d p ≡ v)
+
+-- A part that is broken first is broken.
+abbrev pub BrokenLaw : Type 0
+BrokenLaw = (d : DeckValue) (p : PointValue) (part : Broken) → IsFirstBroken d p part → ¬ Feasible d p
+
+-- The rounded quotients are the next whole numbers below and above.
+abbrev pub RoundingLaw : Type 0
+RoundingLaw =
+    (z : ℤ) (n : ℕ) → 0 < n
+    → ((floor_div z n *ℤ pos n) ≤ℤ z) × (z <ℤ ((floor_div z n +ℤ pos 1) *ℤ pos n)) × (z ≤ℤ (ceil_div z n *ℤ pos n)) × (((ceil_div z n -ℤ pos 1) *ℤ pos n) <ℤ z)
+
+-- No whole number x is nearer to a curve's vertex than the nearest one, and none that is as near is lower.
+abbrev pub NearestLaw : Type 0
+NearestLaw =
+    (linear : ℤ) (square : ℕ) (x : ℤ) → 0 < square
+    → (unsigned_abs (half_slope linear (pos square) (nearest linear square)) ≤ unsigned_abs (half_slope linear (pos square) x))
+    × (unsigned_abs (half_slope linear (pos square) (nearest linear square)) ≡ unsigned_abs (half_slope linear (pos square) x) → nearest linear square ≤ℤ x)

@@ -1,6 +1,6 @@
 //! Functions that do nothing: each has a law as its contract, so that the law is sure to be proved.
 
-ghost use Rattle.um_model.specs.Laws.{RootLaw, CoverLaw, VoidBoxLaw, BoundLaw, ClosedLeafLaw, EmptyLeafLaw, ExclusionLaw, RayLaw, ScalingLaw};
+ghost use Rattle.um_model.specs.Laws.{RootLaw, CoverLaw, VoidBoxLaw, BoundLaw, ClosedLeafLaw, EmptyLeafLaw, ExclusionLaw, RayLaw, ScalingLaw, LeafBoundLaw, ObjectiveLaw, BrokenLaw, RoundingLaw, NearestLaw};
 
 /// Each feasible point is in the root box.
 pub fn root_law()
@@ -45,4 +45,29 @@ pub fn ray_law()
 /// What is said of a point does not depend on a common factor of its numbers.
 pub fn scaling_law()
     ensures { ScalingLaw }
+{}
+
+/// No feasible point of a box has an objective below the bound of a leaf there.
+pub fn leaf_bound_law()
+    ensures { LeafBoundLaw }
+{}
+
+/// A point has one objective.
+pub fn objective_law()
+    ensures { ObjectiveLaw }
+{}
+
+/// A part that is broken first is broken.
+pub fn broken_law()
+    ensures { BrokenLaw }
+{}
+
+/// The rounded quotients are the next whole numbers below and above.
+pub fn rounding_law()
+    ensures { RoundingLaw }
+{}
+
+/// No whole number is nearer to a curve's vertex than the nearest one, and none that is as near is lower.
+pub fn nearest_law()
+    ensures { NearestLaw }
 {}
