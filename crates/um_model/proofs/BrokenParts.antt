@@ -1,7 +1,6 @@
 -- A part that is broken first is broken.
-use Rattle.std.proofs.Common.{ℕ, List, length, slice_get}
-use Rattle.um_model.specs.Values.{DeckValue, PointValue}
-use Rattle.um_model.specs.Feasible.{AllPlaces, Feasible}
+use Rattle.std.proofs.Common.{ℕ, List}
+use Rattle.um_model.specs.Feasible.{AllPlaces}
 use Rattle.um_model.specs.FirstBroken.{IsFirstFailure}
 use Rattle.um_model.specs.Laws.{BrokenLaw}
 use Rattle.um_model.specs.declared.point.Broken.TheVariants.{Row, Bound, Integer, Semi, Set}

@@ -1,10 +1,10 @@
 -- Worked examples of the definitions, by computing.
-use Rattle.std.proofs.Common.{◌≡◌, ℕ, ℤ, pos, negsuc, neg_ℤ, ◌*ℤ◌, List, [], ◌∷◌, Option, Some, None, false, refl, arith}
+use Rattle.std.proofs.Common.{◌≡◌, ℤ, pos, negsuc, ◌*ℤ◌, List, [], ◌∷◌, Option, Some, None, false, refl, arith}
 use Rattle.std.proofs.lemmas.Int.{ints}
-use Rattle.um_laws.specs.Rational.{Rational, reduce, whole}
-use Rattle.um_model.specs.Values.{DeckValue, ColumnValue, MultipliersValue}
+use Rattle.um_laws.specs.Rational.{reduce, whole}
+use Rattle.um_model.specs.Values.{DeckValue, ColumnValue}
 use Rattle.um_model.specs.Objective.{objective_times}
-use Rattle.um_model.specs.Boxes.{BoxValue, Ends, root}
+use Rattle.um_model.specs.Boxes.{BoxValue, root}
 use Rattle.um_model.specs.Branches.{left, right}
 use Rattle.um_model.specs.LeafValue.{leaf_value, leaf_bound, Empties}
 use Rattle.um_model.specs.Tolerance.{least_tolerance}
@@ -17,11 +17,16 @@ use Rattle.um_model.specs.declared.multipliers.Leaf.TheVariants.{Value, EndlessC
 -- ---- min -x - 2y; x + y <= 4; x in [0, 3], y in [0, 2]
 plain_deck : DeckValue
 plain_deck = record {
-  name = []; objective_name = []; maximise = false; scale = 0; constant = pos 0;
+  name = [];
+  objective_name = [];
+  maximise = false;
+  scale = 0;
+  constant = pos 0;
   rows = record { name = []; scale = 0; low = None; high = Some (pos 4) } ∷ [];
   columns = record { name = []; kind = Continuous; low = Some (pos 0); high = Some (pos 3000); cost = negsuc 0; entries = record { row = 0; value = pos 1 } ∷ [] }
       ∷ record { name = []; kind = Continuous; low = Some (pos 0); high = Some (pos 2000); cost = negsuc 1; entries = record { row = 0; value = pos 1 } ∷ [] } ∷ [];
-  sets = []; arcs = [];
+  sets = [];
+  arcs = [];
 }
 
 -- the row gives -4000, and y gives -2000
@@ -44,10 +49,15 @@ whole_column cost a b = record { name = []; kind = Integer; low = Some (pos 0); 
 
 whole_deck : DeckValue
 whole_deck = record {
-  name = []; objective_name = []; maximise = false; scale = 0; constant = pos 0;
+  name = [];
+  objective_name = [];
+  maximise = false;
+  scale = 0;
+  constant = pos 0;
   rows = record { name = []; scale = 0; low = None; high = Some (pos 24) } ∷ record { name = []; scale = 0; low = None; high = Some (pos 6) } ∷ [];
   columns = whole_column (negsuc 4) (pos 6) (pos 1) ∷ whole_column (negsuc 3) (pos 4) (pos 2) ∷ [];
-  sets = []; arcs = [];
+  sets = [];
+  arcs = [];
 }
 
 y_split : BoxValue × BoxValue
@@ -82,10 +92,15 @@ leaf_bounds = (thousand (negsuc 18), thousand (negsuc 19), thousand (negsuc 17))
 -- ---- 2x = 1; x whole in [0, 1]; no cost
 half_deck : DeckValue
 half_deck = record {
-  name = []; objective_name = []; maximise = false; scale = 0; constant = pos 0;
+  name = [];
+  objective_name = [];
+  maximise = false;
+  scale = 0;
+  constant = pos 0;
   rows = record { name = []; scale = 0; low = Some (pos 1); high = Some (pos 1) } ∷ [];
   columns = record { name = []; kind = Integer; low = Some (pos 0); high = Some (pos 1000); cost = pos 0; entries = record { row = 0; value = pos 2 } ∷ [] } ∷ [];
-  sets = []; arcs = [];
+  sets = [];
+  arcs = [];
 }
 
 -- both children are empty
@@ -100,10 +115,15 @@ half_right = record { y0 = refl; value = pos 1000; value_is = refl; above = omeg
 -- ---- min -x; x * x <= 2; x in [0, 2]
 root_deck : Option ℤ → ℤ → DeckValue
 root_deck low cost = record {
-  name = []; objective_name = []; maximise = false; scale = 0; constant = pos 0;
+  name = [];
+  objective_name = [];
+  maximise = false;
+  scale = 0;
+  constant = pos 0;
   rows = record { name = []; scale = 0; low = low; high = Some (pos 2) } ∷ [];
   columns = record { name = []; kind = Continuous; low = Some (pos 0); high = Some (pos 2000); cost = cost; entries = [] } ∷ [];
-  sets = []; arcs = record { row = Some 0; column = 0; value = pos 1 } ∷ [];
+  sets = [];
+  arcs = record { row = Some 0; column = 0; value = pos 1 } ∷ [];
 }
 
 -- the curve is -29000 x + 10 x x, with its vertex at 1450; the row gives -20000
@@ -123,9 +143,15 @@ narrow = refl
 -- ---- a column without a low end has no least value under a positive cost
 free_deck : DeckValue
 free_deck = record {
-  name = []; objective_name = []; maximise = false; scale = 0; constant = pos 0; rows = [];
+  name = [];
+  objective_name = [];
+  maximise = false;
+  scale = 0;
+  constant = pos 0;
+  rows = [];
   columns = record { name = []; kind = Continuous; low = Some (pos 0); high = None; cost = pos 1; entries = [] } ∷ record { name = []; kind = Continuous; low = None; high = None; cost = pos 1; entries = [] } ∷ [];
-  sets = []; arcs = [];
+  sets = [];
+  arcs = [];
 }
 
 endless : leaf_value free_deck (root free_deck) (record { y0 = pos 1; rows = [] }) ≡ EndlessColumn 1
@@ -135,9 +161,15 @@ endless = refl
 -- ---- min cost * x + square * x * x; x in [0, 1]
 curve_deck : ℤ → ℤ → DeckValue
 curve_deck cost square = record {
-  name = []; objective_name = []; maximise = false; scale = 0; constant = pos 0; rows = [];
+  name = [];
+  objective_name = [];
+  maximise = false;
+  scale = 0;
+  constant = pos 0;
+  rows = [];
   columns = record { name = []; kind = Continuous; low = Some (pos 0); high = Some (pos 1000); cost = cost; entries = [] } ∷ [];
-  sets = []; arcs = record { row = None; column = 0; value = square } ∷ [];
+  sets = [];
+  arcs = record { row = None; column = 0; value = square } ∷ [];
 }
 
 -- -5 x + 7 x x has its vertex at 2500 / 7 = 357 + 1/7 thousandths. At 357 it is -5000 * 357 + 7 * 357 * 357 = -892857 millionths; 7/4 rounded up is 2; -892859 / 1000 rounded down is -893

@@ -1,24 +1,22 @@
 -- The average split of a set fits the box, and leaves the point that breaks the set's rule out of both children.
-use Rattle.std.proofs.Common.{◌≡◌, ◌≢◌, ℕ, ◌+◌, ◌<◌, ◌≤◌, ◌==◌, zero, suc, ℤ, pos, negsuc, ◌+ℤ◌, ◌-ℤ◌, ◌*ℤ◌, ◌≤ℤ◌, ◌<ℤ◌, Bool, true, false, cond, eqb, eqb-true, ◌⊎◌, inl, inr, List, [], ◌∷◌, length, map, slice_get, slice_index_or, slice_set, Option, Some, None, refl, sym, ◌∙◌, ap, subst, arith, if◌then◌else◌}
-use Rattle.std.specs.Option.{option_map}
-use Rattle.std.proofs.lemmas.Int.{ints, by_lt_z}
+use Rattle.std.proofs.Common.{◌≡◌, ◌≢◌, ℕ, ◌+◌, ◌<◌, ◌≤◌, ◌==◌, zero, suc, ℤ, pos, negsuc, ◌+ℤ◌, ◌*ℤ◌, ◌≤ℤ◌, ◌<ℤ◌, Bool, true, false, cond, eqb, ◌⊎◌, inl, inr, List, [], ◌∷◌, length, map, slice_index_or, Some, refl, sym, ap, subst, arith, if◌then◌else◌}
+use Rattle.std.proofs.lemmas.Int.{ints}
 use Rattle.std.proofs.lemmas.Bool.Decides.{nat_tests}
-use Rattle.um_laws.specs.Sums.{sum_of, dot}
+use Rattle.um_laws.specs.Sums.{dot}
 use Rattle.um_laws.proofs.WholeLaws.{*ℤ-mono}
-use Rattle.um_laws.proofs.Polynomials.{Polynomial, term, number, ◌⊕◌, ◌⊖◌, ◌⊗◌, same, at_most, at_most_of, below, below_of}
+use Rattle.um_laws.proofs.Polynomials.{term, number, ◌⊕◌, ◌⊗◌, at_most, at_most_of, below, below_of}
 use Rattle.um_model.specs.Values.{DeckValue, SetValue, PointValue}
-use Rattle.um_model.specs.WellFormed.{AtPlace, IsSet, IsDeck}
-use Rattle.um_model.specs.Feasible.{part, SetRule, SetHolds, IsNonzeroAt, member_parts}
+use Rattle.um_model.specs.WellFormed.{AtPlace, IsSet}
+use Rattle.um_model.specs.Feasible.{part, SetRule, IsNonzeroAt, member_parts}
 use Rattle.um_model.specs.Boxes.{BoxValue, Span, InBox, IsOutside, ZeroOutside, span_at, with_span}
-use Rattle.um_model.specs.Branches.{set_kind_of, Fits, FitsOne, FitsTwo, left, right}
-use Rattle.um_model.specs.AverageSplit.{IsFirstNonzero, IsLastNonzero, weights, part_sum, weighted_sum, IsAveragePosition, split_at, IsAverageSplit}
+use Rattle.um_model.specs.Branches.{set_kind_of, Fits, left, right}
+use Rattle.um_model.specs.AverageSplit.{IsFirstNonzero, IsLastNonzero, weights, part_sum, IsAveragePosition, split_at}
 use Rattle.um_model.specs.Laws.{ExclusionLaw}
 use Rattle.um_model.specs.declared.deck.Member.{Member}
 use Rattle.um_model.specs.declared.deck.SetKind.{SetKind}
 use Rattle.um_model.specs.declared.deck.SetKind.TheVariants.{S1, S2}
 use Rattle.um_model.specs.declared.branch.Branch.{Branch}
-use Rattle.um_model.specs.declared.branch.Branch.TheVariants.{One, Two}
-use Rattle.um_model.proofs.Places.{IsItem, item_of, item_at, past_end, at_set, at_map, length-map, zero_or_not}
+use Rattle.um_model.proofs.Places.{item_of, item_at, past_end, at_set, at_map, length-map, zero_or_not}
 
 -- ---- sums over the members
 abbrev weights_of : List Member → List ℤ
@@ -43,9 +41,10 @@ abbrev AtMost : ℤ → List Member → List ℤ → Type 0
 AtMost c ms xs = (i : ℕ) → IsNonzeroAt xs i → part (weights_of ms) i ≤ℤ c
 
 one_low : (c w x : ℤ) → pos 0 ≤ℤ x → (x ≢ pos 0 → c ≤ℤ w) → (c *ℤ x) ≤ℤ (w *ℤ x)
-one_low c w x h le = elim (zero_or_not x)
-    [ inl e ↦ rw e (omega (arith, ints))
-    | inr n ↦ let m = *ℤ-mono x c w h (le n) in omega (arith, ints, m) ]
+one_low c w x h le = elim (zero_or_not x) [
+  | inl e ↦ rw e (omega (arith, ints))
+  | inr n ↦ let m = *ℤ-mono x c w h (le n) in omega (arith, ints, m)
+]
 
 low_sum : (c : ℤ) (ms : List Member) (xs : List ℤ) → length xs ≡ length ms → NonNegative xs → AtLeast c ms xs → (c *ℤ part_sum xs) ≤ℤ weighted ms xs
 low_sum c [] [] n up le = omega (arith, ints)
@@ -94,52 +93,54 @@ below_or m n = grind arith
 
 -- ---- one set at the point
 module _ (d : DeckValue) (p : PointValue) (s : SetValue) (set : IsSet d s) (up : NonNegative (member_parts p s)) (first last : ℕ) (first_is : IsFirstNonzero (member_parts p s) first) (last_is : IsLastNonzero (member_parts p s) last)
-    where
-  abbrev xs : List ℤ
-  xs = member_parts p s
+  where
+    abbrev xs : List ℤ
+    xs = member_parts p s
 
-  as_long : length xs ≡ length s.members
-  as_long = length-map (λ (m : Member). part p.parts m.column) s.members
+    as_long : length xs ≡ length s.members
+    as_long = length-map (λ (m : Member). part p.parts m.column) s.members
 
-  -- a position with a part other than 0 is there, and lies between the first and the last
-  is_there : (i : ℕ) → IsNonzeroAt xs i → i < length s.members
-  is_there i n = elim (below_or i (length s.members)) [ inl l ↦ l | inr g ↦ absurd (n (past_end xs i (pos 0) (omega (arith, as_long)))) ]
+    -- a position with a part other than 0 is there, and lies between the first and the last
+    is_there : (i : ℕ) → IsNonzeroAt xs i → i < length s.members
+    is_there i n = elim (below_or i (length s.members)) [ inl l ↦ l | inr g ↦ absurd (n (past_end xs i (pos 0) (omega (arith, as_long)))) ]
 
-  not_before : (i : ℕ) → IsNonzeroAt xs i → first ≤ i
-  not_before i n = elim (below_or i first) [ inl l ↦ absurd (n (first_is.before i l)) | inr g ↦ g ]
+    not_before : (i : ℕ) → IsNonzeroAt xs i → first ≤ i
+    not_before i n = elim (below_or i first) [ inl l ↦ absurd (n (first_is.before i l)) | inr g ↦ g ]
 
-  not_behind : (i : ℕ) → IsNonzeroAt xs i → i ≤ last
-  not_behind i n = elim (below_or last i) [ inl l ↦ absurd (n (last_is.behind i l)) | inr g ↦ g ]
+    not_behind : (i : ℕ) → IsNonzeroAt xs i → i ≤ last
+    not_behind i n = elim (below_or last i) [ inl l ↦ absurd (n (last_is.behind i l)) | inr g ↦ g ]
 
-  rise : (i j : ℕ) → i < j → j < length s.members → part (weights s) i <ℤ part (weights s) j
-  rise i j l h =
-      let m = (item_at s.members j h).0 in
-      rw (at_map (λ (m : Member). m.weight) s.members i m (pos 0) (omega arith)) (rw (at_map (λ (m : Member). m.weight) s.members j m (pos 0) h) (set.weights i j m l h))
+    rise : (i j : ℕ) → i < j → j < length s.members → part (weights s) i <ℤ part (weights s) j
+    rise i j l h =
+        let m = (item_at s.members j h).0 in
+        rw (at_map (λ (m : Member). m.weight) s.members i m (pos 0) (omega arith)) (rw (at_map (λ (m : Member). m.weight) s.members j m (pos 0) h) (set.weights i j m l h))
 
-  rise_to : (i j : ℕ) → i ≤ j → j < length s.members → part (weights s) i ≤ℤ part (weights s) j
-  rise_to i j l h = elim (below_or i j) [ inl b ↦ let r = rise i j b h in omega (arith, ints) | inr g ↦ let e : i ≡ j = omega arith in rw e (omega (arith, ints)) ]
+    rise_to : (i j : ℕ) → i ≤ j → j < length s.members → part (weights s) i ≤ℤ part (weights s) j
+    rise_to i j l h = elim (below_or i j) [ inl b ↦ let r = rise i j b h in omega (arith, ints) | inr g ↦ let e : i ≡ j = omega arith in rw e (omega (arith, ints)) ]
 
-  -- S1: two are nonzero. S2: two that are no neighbours
-  apart_one : ¬ SetRule S1 xs → first < last
-  apart_one broken = elim (below_or first last) [ inl l ↦ l | inr g ↦ absurd (broken (λ i j b a c. absurd (let u = not_before i a in let v = not_behind j c in omega arith))) ]
+    -- S1: two are nonzero. S2: two that are no neighbours
+    apart_one : ¬ SetRule S1 xs → first < last
+    apart_one broken = elim (below_or first last) [ inl l ↦ l | inr g ↦ absurd (broken (λ i j b a c. absurd (let u = not_before i a in let v = not_behind j c in omega arith))) ]
 
-  apart_two : ¬ SetRule S2 xs → first + 1 < last
-  apart_two broken = elim (below_or (first + 1) last) [ inl l ↦ l | inr g ↦ absurd (broken (λ i j b a c. let u = not_before i a in let v = not_behind j c in omega arith)) ]
+    apart_two : ¬ SetRule S2 xs → first + 1 < last
+    apart_two broken = elim (below_or (first + 1) last) [ inl l ↦ l | inr g ↦ absurd (broken (λ i j b a c. let u = not_before i a in let v = not_behind j c in omega arith)) ]
 
-  module _ (average : ℕ) (average_is : IsAveragePosition s xs average) (two : first < last) where
-    not_early : first ≤ average
-    not_early = elim (below_or average first)
-        [ inl l ↦ absurd (let h = is_there first first_is.nonzero in let b = average_is.behind first l h in
+    module _ (average : ℕ) (average_is : IsAveragePosition s xs average) (two : first < last) where
+      not_early : first ≤ average
+      not_early = elim (below_or average first) [
+        | inl l ↦ absurd (let h = is_there first first_is.nonzero in let b = average_is.behind first l h in
             let low = low_sum (part (weights s) first) s.members xs as_long up (λ i n. rise_to first i (not_before i n) (is_there i n)) in omega (arith, ints))
-        | inr g ↦ g ]
+        | inr g ↦ g
+      ]
 
-    not_late : average < last
-    not_late = elim (below_or average last)
-        [ inl l ↦ l
+      not_late : average < last
+      not_late = elim (below_or average last) [
+        | inl l ↦ l
         | inr g ↦ absurd (let h = is_there last last_is.nonzero in
             let high = high_sum_below (part (weights s) last) s.members xs first as_long up (λ i n. rise_to i last (not_behind i n) h) first_is.nonzero (rise first last two h) in
             let m = *ℤ-mono (part_sum xs) (part (weights s) last) (part (weights s) average) (sum_up xs up) (rise_to last average g average_is.inside) in
-            let a = average_is.at_most in omega (arith, ints, m)) ]
+            let a = average_is.at_most in omega (arith, ints, m))
+      ]
 
 -- ---- the boxes
 -- a child's interval that leaves out a position with a part other than 0 leaves out the point
@@ -176,36 +177,47 @@ exclusion-law d b set s p branch deck at up_s zero_s split = subst (Excludes d b
   where
     same_set : s ≡ split.chosen
     same_set = let h = split.place in cc
+
     at_c : AtPlace d.sets set split.chosen
     at_c = split.place
+
     up : NonNegative (member_parts p split.chosen)
     up = subst (λ (x : SetValue). NonNegative (member_parts p x)) same_set up_s
+
     zero_out : ZeroOutside p (span_at b set) split.chosen
     zero_out = subst (ZeroOutside p (span_at b set)) same_set zero_s
+
     is_set : IsSet d split.chosen
     is_set = let i = item_of d.sets set split.chosen split.place in subst (IsSet d) (i.is split.chosen) (deck.sets set split.chosen i.inside)
+
     low : (span_at b set).first ≤ split.first
     low = within_first (span_at b set) split.first (λ out. split.first_is.nonzero (zero_out split.first out))
+
     high : split.last ≤ (span_at b set).last
     high = within_last (span_at b set) split.last (λ out. split.last_is.nonzero (zero_out split.last out))
+
     early : split.first < split.last → split.first ≤ split.average
     early two = not_early d p split.chosen is_set up split.first split.last split.first_is split.last_is split.average split.average_is two
+
     late : split.first < split.last → split.average < split.last
     late two = not_late d p split.chosen is_set up split.first split.last split.first_is split.last_is split.average split.average_is two
+
     go : (kind : SetKind) → split.chosen.kind ≡ kind → Excludes d b p (split_at kind set split.first split.average)
     go S1 e =
         let two = apart_one d p split.chosen is_set up split.first split.last split.first_is split.last_is (subst (λ (k : SetKind). ¬ SetRule k (member_parts p split.chosen)) e split.broken) in
         let f = early two in
         let l = late two in
-        let there : set < length b.spans = span_there b set split.average (omega (arith, high)) in
-        (record { kind = kind_at d set split.chosen S1 at_c e; first = omega (arith, low); last = omega (arith, high) },
-        not_in d b p set split.chosen (record { first = (span_at b set).first; last = split.average }) split.last at_c there split.last_is.nonzero (inr l),
-        not_in d b p set split.chosen (record { first = split.average + 1; last = (span_at b set).last }) split.first at_c there split.first_is.nonzero (inl (omega arith)))
+        let there : set < length b.spans = span_there b set split.average (omega (arith, high)) in (
+          record { kind = kind_at d set split.chosen S1 at_c e; first = omega (arith, low); last = omega (arith, high) },
+          not_in d b p set split.chosen (record { first = (span_at b set).first; last = split.average }) split.last at_c there split.last_is.nonzero (inr l),
+          not_in d b p set split.chosen (record { first = split.average + 1; last = (span_at b set).last }) split.first at_c there split.first_is.nonzero (inl (omega arith)),
+        )
     go S2 e =
         let two = apart_two d p split.chosen is_set up split.first split.last split.first_is split.last_is (subst (λ (k : SetKind). ¬ SetRule k (member_parts p split.chosen)) e split.broken) in
         let k = behind_first split.first split.average split.last (split.average == split.first) refl (early (omega arith)) (late (omega arith)) two in
         let cut : ℕ = if split.average == split.first then split.first + 1 else split.average in
-        let there : set < length b.spans = span_there b set cut (omega (arith, high, k.1)) in
-        (record { kind = kind_at d set split.chosen S2 at_c e; first = omega (arith, low, k.0); last = omega (arith, high, k.1) },
-        not_in d b p set split.chosen (record { first = (span_at b set).first; last = cut }) split.last at_c there split.last_is.nonzero (inr k.1),
-        not_in d b p set split.chosen (record { first = cut; last = (span_at b set).last }) split.first at_c there split.first_is.nonzero (inl k.0))
+        let there : set < length b.spans = span_there b set cut (omega (arith, high, k.1)) in (
+          record { kind = kind_at d set split.chosen S2 at_c e; first = omega (arith, low, k.0); last = omega (arith, high, k.1) },
+          not_in d b p set split.chosen (record { first = (span_at b set).first; last = cut }) split.last at_c there split.last_is.nonzero (inr k.1),
+          not_in d b p set split.chosen (record { first = cut; last = (span_at b set).last }) split.first at_c there split.first_is.nonzero (inl k.0),
+        )

@@ -12,4 +12,5 @@ pub mod Objectives
 pub mod Places
 pub mod Rounding
 pub mod Scaling
+pub mod Sparse
 pub mod VoidBoxes

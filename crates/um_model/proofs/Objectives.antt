@@ -1,11 +1,11 @@
 -- A point has one objective, and a leaf's bound is below that of no feasible point of its box.
-use Rattle.std.proofs.Common.{◌≡◌, ℕ, ◌*◌, ◌^◌, ◌<◌, ℤ, pos, negsuc, ◌+ℤ◌, ◌-ℤ◌, ◌*ℤ◌, ◌≤ℤ◌, ◌<ℤ◌, unsigned_abs, refl, sym, ◌∙◌, ap, subst, arith}
+use Rattle.std.proofs.Common.{◌≡◌, ℕ, ◌*◌, ◌^◌, ◌<◌, ℤ, pos, negsuc, ◌*ℤ◌, ◌≤ℤ◌, ◌<ℤ◌, unsigned_abs, sym, ◌∙◌, ap, subst, arith}
 use lib.IntN.{pos-*ℤ-pos}
 use Rattle.std.proofs.lemmas.Int.{ints}
-use Rattle.um_laws.specs.Rational.{Rational, Is, reduce}
+use Rattle.um_laws.specs.Rational.{Rational, Is}
 use Rattle.um_laws.proofs.RationalParts.{is_reduce, same_value}
 use Rattle.um_laws.proofs.WholeLaws.{times_pos}
-use Rattle.um_laws.proofs.Polynomials.{Polynomial, term, number, ◌⊕◌, ◌⊖◌, ◌⊗◌, same, at_most, at_most_of}
+use Rattle.um_laws.proofs.Polynomials.{term, number, ◌⊖◌, ◌⊗◌, same}
 use Rattle.um_model.specs.Values.{DeckValue, PointValue}
 use Rattle.um_model.specs.Objective.{objective, objective_times, objective_over, HasObjective}
 use Rattle.um_model.specs.LeafValue.{leaf_bound, Reaches}
@@ -35,6 +35,7 @@ objective-law d p v h = (there, back)
   where
     there : HasObjective d p v → objective d p ≡ v
     there has = same_value (objective d p) v (objective_times d p) (over d p) (over_up d p h) (objective_is d p h) (ap (λ (z : ℤ). v.num *ℤ z) (over_is d p h) ∙ sym has)
+
     back : objective d p ≡ v → HasObjective d p v
     back e = subst (HasObjective d p) e (sym (objective_is d p h) ∙ ap (λ (z : ℤ). (objective d p).num *ℤ z) (over_is d p h))
 

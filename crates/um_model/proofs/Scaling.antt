@@ -1,25 +1,24 @@
 -- What is said of a point does not depend on a common factor of its numbers.
-use Rattle.std.proofs.Common.{◌≡◌, ◌≢◌, ℕ, ◌+◌, ◌*◌, ◌<◌, ◌^◌, zero, suc, ℤ, pos, negsuc, ◌+ℤ◌, ◌-ℤ◌, ◌*ℤ◌, ◌≤ℤ◌, ◌<ℤ◌, unsigned_abs, Bool, true, false, cond, ◌⊎◌, inl, inr, ◌↔◌, List, [], ◌∷◌, length, map, slice_index_or, Option, Some, None, refl, sym, ◌∙◌, ap, subst, arith, if◌then◌else◌}
+use Rattle.std.proofs.Common.{◌≡◌, ℕ, ◌*◌, ◌<◌, ◌^◌, zero, suc, ℤ, pos, negsuc, ◌+ℤ◌, ◌-ℤ◌, ◌*ℤ◌, ◌≤ℤ◌, ◌<ℤ◌, unsigned_abs, Bool, true, false, ◌⊎◌, inl, inr, ◌↔◌, List, [], ◌∷◌, map, slice_index_or, Option, Some, None, refl, sym, ◌∙◌, ap, subst, arith, if◌then◌else◌}
 use Rattle.std.proofs.lemmas.Int.{ints, by_lt_z, unsigned_abs-mul}
 use lib.IntN.{pos-*ℤ-pos}
 use Rattle.um_laws.specs.Rational.{Rational, Is, reduce}
 use Rattle.um_laws.proofs.RationalParts.{is_reduce, same_value}
 use Rattle.um_laws.proofs.WholeLaws.{*ℤ-mono, times_pos}
-use Rattle.um_laws.specs.Sums.{sum_of, dot}
+use Rattle.um_laws.specs.Sums.{dot}
 use Rattle.um_laws.proofs.SumLaws.{sum_of-same, sum_of-*ℤ}
-use Rattle.um_laws.proofs.Polynomials.{Polynomial, term, number, ◌⊕◌, ◌⊖◌, ◌⊗◌, same, at_most, at_most_of, below, below_of}
+use Rattle.um_laws.proofs.Polynomials.{Polynomial, term, number, ◌⊕◌, ◌⊗◌, same, at_most, at_most_of, below}
 use Rattle.um_model.specs.Values.{DeckValue, ColumnValue, SetValue, PointValue}
-use Rattle.um_model.specs.Feasible.{part, Between, Feasible, coefficient, linear_sum, is_arc_of, square_sum, row_times, RowHolds, EndsHold, IntegerHolds, SemiHolds, SetHolds, SetRule, IsNonzeroAt, IsMultipleOf, member_parts}
+use Rattle.um_model.specs.Feasible.{part, Between, Feasible, coefficient, linear_sum, is_arc_of, square_sum, row_times, RowHolds, SetRule, IsNonzeroAt, IsMultipleOf, member_parts}
 use Rattle.um_model.specs.Objective.{cost_sum, objective_times, objective_over, objective, Beats}
-use Rattle.um_model.specs.Boxes.{BoxValue, InBox, ZeroOutside, span_at, ends_at}
-use Rattle.um_model.specs.Laws.{scaled, IsSamePoint, ScalingLaw}
+use Rattle.um_model.specs.Boxes.{BoxValue, InBox, ends_at}
+use Rattle.um_model.specs.Laws.{scaled, ScalingLaw}
 use Rattle.um_model.specs.declared.deck.Row.{Row}
 use Rattle.um_model.specs.declared.deck.Member.{Member}
 use Rattle.um_model.specs.declared.deck.SetKind.{SetKind}
 use Rattle.um_model.specs.declared.deck.SetKind.TheVariants.{S1, S2}
 use Rattle.um_model.specs.declared.deck.Arc.{Arc}
 use Rattle.um_model.proofs.Places.{length-map}
-use Rattle.um_model.proofs.Curves.{both_up}
 use Rattle.um_model.proofs.Moving.{ten_up}
 
 -- ---- a common factor above 0
@@ -213,11 +212,12 @@ module _ (d : DeckValue) (p : PointValue) (k : ℤ) (den : pos 1 ≤ℤ p.den) (
       let B : ℤ = (pos 1000 *ℤ v.num -ℤ t *ℤ pos v.den) *ℤ objective_over d p in
       let G : ℤ = pos 1000 *ℤ v.num -ℤ t *ℤ pos v.den in
       let a : pos 1000 *ℤ objective_times d (scaled k p) *ℤ pos v.den ≡ (k *ℤ k) *ℤ (pos 1000 *ℤ objective_times d p *ℤ pos v.den) =
-          rw objective_is (same (number 1000 ⊗ ((term k ⊗ term k) ⊗ term (objective_times d p)) ⊗ term (pos v.den)) ((term k ⊗ term k) ⊗ (number 1000 ⊗ term (objective_times d p) ⊗ term (pos v.den))) (omega arith)) in
+      rw objective_is (same (number 1000 ⊗ ((term k ⊗ term k) ⊗ term (objective_times d p)) ⊗ term (pos v.den)) ((term k ⊗ term k) ⊗ (number 1000 ⊗ term (objective_times d p) ⊗ term (pos v.den))) (omega arith)) in
       let b : G *ℤ objective_over d (scaled k p) ≡ (k *ℤ k) *ℤ (G *ℤ objective_over d p) =
-          rw over_is (same (term G ⊗ ((term k ⊗ term k) ⊗ term (objective_over d p))) ((term k ⊗ term k) ⊗ (term G ⊗ term (objective_over d p))) (omega arith)) in
-      (λ l. cancel_lt (k *ℤ k) A B up_square (subst (λ (x : ℤ). x <ℤ ((k *ℤ k) *ℤ B)) a (subst (λ (x : ℤ). (pos 1000 *ℤ objective_times d (scaled k p) *ℤ pos v.den) <ℤ x) b l)),
-      λ l. subst (λ (x : ℤ). x <ℤ (G *ℤ objective_over d (scaled k p))) (sym a) (subst (λ (x : ℤ). ((k *ℤ k) *ℤ A) <ℤ x) (sym b) (times_lt (k *ℤ k) A B up_square l)))
+      rw over_is (same (term G ⊗ ((term k ⊗ term k) ⊗ term (objective_over d p))) ((term k ⊗ term k) ⊗ (term G ⊗ term (objective_over d p))) (omega arith)) in (
+        λ l. cancel_lt (k *ℤ k) A B up_square (subst (λ (x : ℤ). x <ℤ ((k *ℤ k) *ℤ B)) a (subst (λ (x : ℤ). (pos 1000 *ℤ objective_times d (scaled k p) *ℤ pos v.den) <ℤ x) b l)),
+        λ l. subst (λ (x : ℤ). x <ℤ (G *ℤ objective_over d (scaled k p))) (sym a) (subst (λ (x : ℤ). ((k *ℤ k) *ℤ A) <ℤ x) (sym b) (times_lt (k *ℤ k) A B up_square l)),
+      )
 
   same_objective : objective d (scaled k p) ≡ objective d p
   same_objective =
