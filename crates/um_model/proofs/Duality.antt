@@ -37,7 +37,7 @@ mapped f None v e = absurd (cc)
 mapped f (Some t) v e = (t, refl, cc)
 
 -- none is found: the first item does not pass, and none of the rest
-none_found : {X : Type 0} (test : X → Bool) (x : X) (xs : List X) → find test (x ∷ xs) ≡ None → (test x ≡ false) × (find test xs ≡ None)
+pub none_found : {X : Type 0} (test : X → Bool) (x : X) (xs : List X) → find test (x ∷ xs) ≡ None → (test x ≡ false) × (find test xs ≡ None)
 none_found test x xs e = go (test x) refl e
   where
     go : (t : Bool) → test x ≡ t → cond t (Some x) (find test xs) ≡ None → (test x ≡ false) × (find test xs ≡ None)

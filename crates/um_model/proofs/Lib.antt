@@ -6,6 +6,7 @@ pub mod Examples
 pub mod Exchange
 pub mod Exclusion
 pub mod Leaves
+pub mod Loops
 pub mod Moving
 pub mod Nearest
 pub mod Objectives
