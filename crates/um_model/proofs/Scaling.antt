@@ -25,7 +25,7 @@ use Rattle.um_model.proofs.Moving.{ten_up}
 pub up_product : (a b : ℤ) → pos 1 ≤ℤ a → pos 1 ≤ℤ b → pos 1 ≤ℤ (a *ℤ b)
 up_product a b h g = let m = *ℤ-mono a (pos 1) b (omega (arith, ints)) g in omega (arith, ints, m)
 
-cancel_le : (k a b : ℤ) → pos 1 ≤ℤ k → (k *ℤ a) ≤ℤ (k *ℤ b) → a ≤ℤ b
+pub cancel_le : (k a b : ℤ) → pos 1 ≤ℤ k → (k *ℤ a) ≤ℤ (k *ℤ b) → a ≤ℤ b
 cancel_le k a b h l = by_lt_z b a (λ (g : b <ℤ a). absurd (let m = *ℤ-mono k (b +ℤ pos 1) a (omega (arith, ints)) (omega (arith, ints)) in
     omega (arith, at_most_of (term k ⊗ (term b ⊕ number 1)) (term k ⊗ term a) m, at_most_of (term k ⊗ term a) (term k ⊗ term b) l, at_most_of (number 1) (term k) h))) (λ (g : a ≤ℤ b). g)
 
