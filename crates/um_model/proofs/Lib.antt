@@ -10,8 +10,10 @@ pub mod Loops
 pub mod Moving
 pub mod Nearest
 pub mod Objectives
+pub mod OneSplit
 pub mod Places
 pub mod Rounding
 pub mod Scaling
+pub mod SetExamples
 pub mod Sparse
 pub mod VoidBoxes

@@ -79,9 +79,13 @@ ScalingLaw = (d : DeckValue) (p : PointValue) (k : ℤ) → pos 1 ≤ℤ p.den �
 abbrev pub ObjectiveLaw : Type 0
 ObjectiveLaw = (d : DeckValue) (p : PointValue) (v : Rational) → pos 1 ≤ℤ p.den → HasObjective d p v ↔ (objective d p ≡ v)
 
--- A part that is broken first is broken.
+-- A point that breaks a part first is not feasible, and it breaks no other part first.
 abbrev pub BrokenLaw : Type 0
-BrokenLaw = (d : DeckValue) (p : PointValue) (part : Broken) → IsFirstBroken d p part → ¬ Feasible d p
+BrokenLaw = (d : DeckValue) (p : PointValue) (one : Broken) → IsFirstBroken d p one → ¬ Feasible d p × ((other : Broken) → IsFirstBroken d p other → one ≡ other)
+
+-- A set has one average split at a point.
+abbrev pub OneSplitLaw : Type 0
+OneSplitLaw = (d : DeckValue) (set : ℕ) (p : PointValue) (one other : Branch) → IsAverageSplit d set p one → IsAverageSplit d set p other → one ≡ other
 
 -- The rounded quotients are the next whole numbers below and above.
 abbrev pub RoundingLaw : Type 0

@@ -1,6 +1,6 @@
 //! Functions that do nothing: each has a law as its contract, so that the law is sure to be proved.
 
-ghost use Rattle.um_model.specs.Laws.{RootLaw, CoverLaw, VoidBoxLaw, BoundLaw, ClosedLeafLaw, EmptyLeafLaw, ExclusionLaw, RayLaw, ScalingLaw, LeafBoundLaw, ObjectiveLaw, BrokenLaw, RoundingLaw, NearestLaw};
+ghost use Rattle.um_model.specs.Laws.{RootLaw, CoverLaw, VoidBoxLaw, BoundLaw, ClosedLeafLaw, EmptyLeafLaw, ExclusionLaw, OneSplitLaw, RayLaw, ScalingLaw, LeafBoundLaw, ObjectiveLaw, BrokenLaw, RoundingLaw, NearestLaw};
 
 /// Each feasible point is in the root box.
 pub fn root_law()
@@ -37,6 +37,11 @@ pub fn exclusion_law()
     ensures { ExclusionLaw }
 {}
 
+/// A set has one average split at a point.
+pub fn one_split_law()
+    ensures { OneSplitLaw }
+{}
+
 /// A feasible point moved along a ray stays feasible, and its objective falls.
 pub fn ray_law()
     ensures { RayLaw }
@@ -57,7 +62,7 @@ pub fn objective_law()
     ensures { ObjectiveLaw }
 {}
 
-/// A part that is broken first is broken.
+/// A point that breaks a part first is not feasible, and it breaks no other part first.
 pub fn broken_law()
     ensures { BrokenLaw }
 {}
