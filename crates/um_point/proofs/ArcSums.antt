@@ -1,6 +1,6 @@
 -- Sums over the arcs of a deck.
-use Rattle.std.proofs.Common.{[], ◌∷◌, ◌≡◌, ℕ, ◌<◌, ◌≤◌, ℤ, pos, ◌+ℤ◌, ◌*ℤ◌, List, length, map, get_or, refl, sym, ◌∙◌, inl, inr, arith, Bool, true, false, eqb, eqb-true}
-use Rattle.std.specs.Prelude.{All, Option, Some, None, if◌then◌else◌, ◌||◌, ◌⊎◌}
+use Rattle.std.proofs.Common.{[], ◌∷◌, ◌≡◌, ℕ, ◌<◌, ◌≤◌, ℤ, pos, ◌*ℤ◌, List, length, map, get_or, refl, sym, ◌∙◌, inl, inr, arith, Bool, true, false, eqb, eqb-true}
+use Rattle.std.specs.Prelude.{All, Some, None, if◌then◌else◌, ◌||◌, ◌⊎◌}
 use Rattle.std.specs.List.{list_any, IsDistinct}
 use Rattle.std.proofs.lemmas.Bool.{false≢true, ne_eqb}
 use Rattle.std.proofs.lemmas.List.{get_or-map, length-map}
@@ -47,11 +47,11 @@ few_arcs d h =
     let none : Arc = record { row = None; column = 0; value = pos 0 } in
     let long : length columns ≡ length d.arcs = length-map d.arcs (λ (a : Arc). a.column) in
     let apart : IsDistinct eqb columns =
-        IsDistinct-from_apart eqb columns (λ i j n below within.
-        let second : j < length d.arcs = omega (arith, within, long) in
-        let first : i < length d.arcs = omega (arith, below, second) in
-        let at_first : get_or columns i n ≡ (get_or d.arcs i none).column = get_or-map (λ (a : Arc). a.column) d.arcs i none n first in
-        let at_second : get_or columns j n ≡ (get_or d.arcs j none).column = get_or-map (λ (a : Arc). a.column) d.arcs j none n second in
-        let rows : (get_or d.arcs i none).row ≡ (get_or d.arcs j none).row = h.objective_arcs i none first ∙ sym (h.objective_arcs j none second) in
-        ne_eqb (get_or columns i n) (get_or columns j n) (λ e. h.formed.distinct_arcs i j none below second rows (sym at_first ∙ e ∙ at_second))) in
+    IsDistinct-from_apart eqb columns (λ i j n below within.
+    let second : j < length d.arcs = omega (arith, within, long) in
+    let first : i < length d.arcs = omega (arith, below, second) in
+    let at_first : get_or columns i n ≡ (get_or d.arcs i none).column = get_or-map (λ (a : Arc). a.column) d.arcs i none n first in
+    let at_second : get_or columns j n ≡ (get_or d.arcs j none).column = get_or-map (λ (a : Arc). a.column) d.arcs j none n second in
+    let rows : (get_or d.arcs i none).row ≡ (get_or d.arcs j none).row = h.objective_arcs i none first ∙ sym (h.objective_arcs j none second) in
+    ne_eqb (get_or columns i n) (get_or columns j n) (λ e. h.formed.distinct_arcs i j none below second rows (sym at_first ∙ e ∙ at_second))) in
     omega (arith, long, length-le_from_distinct_below columns (length d.columns) apart (below_each (length d.columns) d.arcs (λ k a within. (h.formed.arcs k a within).column)))

@@ -11,6 +11,7 @@ mod columns;
 mod first_broken;
 mod quotient;
 mod rows;
+mod sets;
 mod sums;
 mod value;
 
