@@ -13,6 +13,8 @@ mod quotient;
 mod rows;
 mod sets;
 mod sums;
+#[cfg(test)]
+mod tests;
 mod value;
 
 pub use first_broken::feasible;
