@@ -2,9 +2,10 @@
 use Rattle.std.proofs.Common.{[], ◌∷◌, ◌≡◌, ℕ, zero, suc, ◌^◌, ◌<◌, ◌≤◌, ℤ, List, length, map, get_or, sym, subst, arith}
 use Rattle.std.specs.Prelude.{All, AllPairs, Option}
 use Rattle.std.specs.Option.{ForSome}
-use Rattle.um_model.specs.Values.{DeckValue, ColumnValue, plain_column}
-use Rattle.um_model.specs.WellFormed.{IsEntry, IsColumn, IsRow, IsWithin}
+use Rattle.um_model.specs.Values.{DeckValue, ColumnValue, plain_column, plain_set}
+use Rattle.um_model.specs.WellFormed.{IsEntry, IsColumn, IsRow, IsSet, IsWithin}
 use Rattle.um_model.specs.declared.deck.Entry.{Entry}
+use Rattle.um_model.specs.declared.deck.OrderedSet.{OrderedSet}
 use Rattle.um_model.specs.declared.deck.Row.{Row}
 use Rattle.um_model.specs.declared.deck.Column.{Column}
 use Rattle.um_deck.specs.Decks.{IsDeckNow}
@@ -43,3 +44,6 @@ row_at d rs i x h same l e = subst IsRow (sym (item_is rs d.rows i x same e)) (h
 -- an end of a column is well below a side of a row
 pub end_within : (o : Option ℤ) → ForSome o (IsWithin (10 ^ 10)) → ForSome o (IsWithin (2 ^ 53))
 end_within o h x e = omega (arith, h x e)
+
+pub set_at : (d : DeckValue) (ss : List OrderedSet) (i : ℕ) (x : OrderedSet) → IsDeckNow d → map plain_set ss ≡ d.sets → i < length d.sets → x ≡ get_or ss i x → IsSet d (plain_set x)
+set_at d ss i x h same l e = subst (IsSet d) (sym (image_is plain_set ss d.sets i x same l e)) (h.formed.sets i (plain_set x) l)

@@ -5,3 +5,4 @@ pub mod ObjectiveParts
 pub mod PlaceLemmas
 pub mod Quotients
 pub mod Thresholds
+pub mod SetRules

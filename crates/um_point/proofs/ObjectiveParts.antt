@@ -1,5 +1,5 @@
--- The parts of an objective in 128 bits: the constant times the square of the denominator, and the denominator of the whole.
-use Rattle.std.proofs.Common.{◌≡◌, ℕ, ◌^◌, ◌<◌, ◌≤◌, ℤ, pos, negsuc, ◌*ℤ◌, ◌≤ℤ◌, refl, arith, unsigned_abs, FitsSigned, to_z, of_z}
+-- The parts of an objective in 128 bits: numbers times squares, and the denominator of the whole.
+use Rattle.std.proofs.Common.{◌*◌, ◌≡◌, ℕ, ◌^◌, ◌<◌, ◌≤◌, ℤ, pos, negsuc, ◌*ℤ◌, ◌≤ℤ◌, refl, arith, unsigned_abs, FitsSigned, to_z, of_z}
 use Rattle.std.specs.Int.{w128}
 use Rattle.std.proofs.lemmas.Int.{ints}
 use Rattle.std.proofs.Math.Nat.{one-le-pow, pow-le-pow_right}
@@ -17,15 +17,21 @@ square_is q h = factors_are q q q q (2 ^ 36) (2 ^ 36) refl refl (omega arith) (o
 pub square_size : (q : ℤ) → unsigned_abs q < 2 ^ 36 → unsigned_abs (q *ℤ q) ≤ 2 ^ 72
 square_size q h = abs_product q q (2 ^ 36) (2 ^ 36) (omega arith) (omega arith)
 
+pub square_fits : (q : ℤ) → unsigned_abs q < 2 ^ 36 → FitsSigned w128 (seen q *ℤ seen q)
+square_fits q h = product_fits q q q q (2 ^ 36) (2 ^ 36) refl refl (omega arith) (omega arith) (omega arith) (omega arith) (omega arith)
+
+-- a number times a square
 module _ (q k f : ℤ) (same : f ≡ k) (small : unsigned_abs q < 2 ^ 36) (size : unsigned_abs k ≤ 2 ^ 53) where
-  pub constant_fits : FitsSigned w128 (seen f *ℤ seen (seen q *ℤ seen q))
-  constant_fits = product_fits k (q *ℤ q) f (seen q *ℤ seen q) (2 ^ 53) (2 ^ 72) same (square_is q small) size (square_size q small) (omega arith) (omega arith) (omega arith)
+  pub times_square_fits : FitsSigned w128 (seen f *ℤ seen (seen q *ℤ seen q))
+  times_square_fits =
+      product_fits k (q *ℤ q) f (seen q *ℤ seen q) (2 ^ 53) (2 ^ 72) same (square_is q small) size (square_size q small) (omega arith) (omega arith) (omega arith)
 
-  pub constant_value : seen (seen f *ℤ seen (seen q *ℤ seen q)) ≡ k *ℤ (q *ℤ q)
-  constant_value = product_is k (q *ℤ q) f (seen q *ℤ seen q) (2 ^ 53) (2 ^ 72) same (square_is q small) size (square_size q small) (omega arith) (omega arith) (omega arith)
+  pub times_square_value : seen (seen f *ℤ seen (seen q *ℤ seen q)) ≡ k *ℤ (q *ℤ q)
+  times_square_value =
+      product_is k (q *ℤ q) f (seen q *ℤ seen q) (2 ^ 53) (2 ^ 72) same (square_is q small) size (square_size q small) (omega arith) (omega arith) (omega arith)
 
-  pub constant_size : unsigned_abs (seen (seen f *ℤ seen (seen q *ℤ seen q))) ≤ 2 ^ 125
-  constant_size = rw constant_value (abs_product k (q *ℤ q) (2 ^ 53) (2 ^ 72) size (square_size q small))
+  pub times_square_size : unsigned_abs (seen (seen f *ℤ seen (seen q *ℤ seen q))) ≤ unsigned_abs k * 2 ^ 72
+  times_square_size = rw times_square_value (abs_product k (q *ℤ q) (unsigned_abs k) (2 ^ 72) (omega arith) (square_size q small))
 
 -- a product of numbers of at least 1
 product_positive : (a b : ℤ) → pos 1 ≤ℤ a → pos 1 ≤ℤ b → pos 1 ≤ℤ (a *ℤ b)

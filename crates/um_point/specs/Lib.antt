@@ -1,2 +1,3 @@
+pub mod MemberParts
 pub mod Places
 pub mod SmallPoints

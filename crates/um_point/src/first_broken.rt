@@ -1,13 +1,14 @@
 //! The first part of a deck that a point breaks.
 
-ghost use Rattle.std.specs.Prelude.{◌≡◌, length, [], IsNone, IfSome, ◌↔◌};
+ghost use Rattle.std.specs.Prelude.{◌≡◌, length, IsNone, IfSome, ◌↔◌};
 ghost use Rattle.um_model.specs.Values.{plain_point};
-ghost use Rattle.um_model.specs.Feasible.{AllPlaces, RowHolds, EndsHold, IntegerHolds, SemiHolds, Feasible};
+ghost use Rattle.um_model.specs.Feasible.{AllPlaces, RowHolds, EndsHold, IntegerHolds, SemiHolds, SetHolds, Feasible};
 ghost use Rattle.um_model.specs.FirstBroken.{IsFirstFailure, IsFirstBroken};
 ghost use Rattle.um_point.specs.SmallPoints.{IsSmallPoint};
 
 use crate::columns::{ends_hold, integer_holds, semi_holds};
 use crate::rows::row_holds;
+use crate::sets::set_holds;
 use um_deck::Deck;
 use um_model::{Broken, Point};
 
@@ -23,6 +24,13 @@ fn column_count(deck: &Deck) -> u32
 {
     deck.known();
     deck.columns().len() as u32
+}
+
+fn set_count(deck: &Deck) -> u32
+    ensures { result ≡ length deck.now.sets }
+{
+    deck.known();
+    deck.sets().len() as u32
 }
 
 fn first_broken_row(deck: &Deck, point: &Point) -> Option<u32>
@@ -77,13 +85,23 @@ fn first_broken_semi(deck: &Deck, point: &Point) -> Option<u32>
     None
 }
 
+fn first_broken_set(deck: &Deck, point: &Point) -> Option<u32>
+    requires { IsSmallPoint deck.now (plain_point point.now) }
+    ensures none { IsNone result ↔ AllPlaces (SetHolds (plain_point point.now)) deck.now.sets }
+    ensures first { IfSome result (IsFirstFailure (SetHolds (plain_point point.now)) deck.now.sets) }
+{
+    for set in 0..set_count(deck) {
+        if !set_holds(deck, point, set) {
+            return Some(set);
+        }
+    }
+    None
+}
+
 /// The first part of the deck that the point breaks, in the order rows, ends, integer columns,
-/// semicontinuous columns; the point satisfies the deck where there is none.
-///
-/// So far sets are not looked at, and there must be none.
+/// semicontinuous columns and sets. The point satisfies the deck where there is none.
 pub fn feasible(deck: &Deck, point: &Point) -> Option<Broken>
-    requires small { IsSmallPoint deck.now (plain_point point.now) }
-    requires no_sets { deck.now.sets ≡ [] }
+    requires { IsSmallPoint deck.now (plain_point point.now) }
     ensures feasible { IsNone result ↔ Feasible deck.now (plain_point point.now) }
     ensures first { IfSome result (IsFirstBroken deck.now (plain_point point.now)) }
 {
@@ -98,6 +116,9 @@ pub fn feasible(deck: &Deck, point: &Point) -> Option<Broken>
     }
     if let Some(column) = first_broken_semi(deck, point) {
         return Some(Broken::Semi(column));
+    }
+    if let Some(set) = first_broken_set(deck, point) {
+        return Some(Broken::Set(set));
     }
     None
 }

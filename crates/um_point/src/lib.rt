@@ -11,7 +11,10 @@ mod columns;
 mod first_broken;
 mod quotient;
 mod rows;
+mod sets;
 mod sums;
+#[cfg(test)]
+mod tests;
 mod value;
 
 pub use first_broken::feasible;

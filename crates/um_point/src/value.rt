@@ -1,23 +1,21 @@
 //! The objective of a point.
 
-ghost use Rattle.std.specs.Prelude.{◌≡◌, ◌≤◌, ◌^◌, ◌≤ℤ◌, ◌*ℤ◌, pos, []};
+ghost use Rattle.std.specs.Prelude.{◌≡◌, ◌≤◌, ◌^◌, ◌≤ℤ◌, ◌*ℤ◌, pos, None};
 ghost use Rattle.um_num.specs.Numbers.{IsInRange};
 ghost use Rattle.um_model.specs.Values.{plain_point};
 ghost use Rattle.um_model.specs.WellFormed.{IsWithin};
+ghost use Rattle.um_model.specs.Feasible.{square_sum};
 ghost use Rattle.um_model.specs.Objective.{objective, cost_sum, objective_times, objective_over};
 ghost use Rattle.um_point.specs.SmallPoints.{IsSmallPoint};
 
-use crate::sums::cost_sum;
+use crate::sums::{cost_sum, square_sum, times_square};
 use um_deck::Deck;
 use um_model::Point;
 use um_num::Frac;
 
 /// The objective of a point, as kept for minimising. It need not satisfy the deck.
-///
-/// So far a deck's arcs are not counted, and there must be none.
 pub fn objective(deck: &Deck, point: &Point) -> Frac
-    requires small { IsSmallPoint deck.now (plain_point point.now) }
-    requires no_arcs { deck.now.arcs ≡ [] }
+    requires { IsSmallPoint deck.now (plain_point point.now) }
     ensures { result ≡ objective deck.now (plain_point point.now) }
 {
     Frac::new(numerator(deck, point), denominator(deck, point))
@@ -25,12 +23,11 @@ pub fn objective(deck: &Deck, point: &Point) -> Frac
 
 /// The objective times its denominator.
 fn numerator(deck: &Deck, point: &Point) -> i128
-    requires small { IsSmallPoint deck.now (plain_point point.now) }
-    requires no_arcs { deck.now.arcs ≡ [] }
+    requires { IsSmallPoint deck.now (plain_point point.now) }
     ensures value { result ≡ objective_times deck.now (plain_point point.now) }
     ensures range { IsInRange result }
 {
-    costs(deck, point) + constant(deck, point)
+    costs(deck, point) + squares(deck, point) + constant(deck, point)
 }
 
 fn denominator(deck: &Deck, point: &Point) -> i128
@@ -53,6 +50,16 @@ fn costs(deck: &Deck, point: &Point) -> i128
     point.den * cost_sum(deck.columns(), point.parts.as_slice())
 }
 
+/// What the arcs add to the numerator.
+fn squares(deck: &Deck, point: &Point) -> i128
+    requires { IsSmallPoint deck.now (plain_point point.now) }
+    ensures value { result ≡ square_sum deck.now None (plain_point point.now).parts }
+    ensures size { IsWithin (2 ^ 108) result }
+{
+    deck.known();
+    square_sum(deck.arcs(), point.parts.as_slice())
+}
+
 /// What the constant adds to the numerator.
 fn constant(deck: &Deck, point: &Point) -> i128
     requires { IsSmallPoint deck.now (plain_point point.now) }
@@ -60,7 +67,7 @@ fn constant(deck: &Deck, point: &Point) -> i128
     ensures size { IsWithin (2 ^ 125) result }
 {
     deck.known();
-    i128::from(deck.constant()) * (point.den * point.den)
+    times_square(deck.constant(), &point.den)
 }
 
 fn power_of_ten(exponent: u8) -> i128

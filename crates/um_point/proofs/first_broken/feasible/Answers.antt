@@ -1,4 +1,4 @@
-use Rattle.std.proofs.Common.{refl, ap, length, arith}
+use Rattle.std.proofs.Common.{refl}
 use Rattle.um_point.proofs.first_broken.feasible.Goals as goal
 
 pub returns-in-Some-first_broken_bound-clause-first : goal.returns-in-Some-first_broken_bound-clause-first
@@ -15,16 +15,25 @@ returns-in-Some-first_broken_semi-clause-first c = (
   c.in-Some-first_broken_semi.ensures.first,
 )
 
+pub returns-in-Some-first_broken_set-clause-first : goal.returns-in-Some-first_broken_set-clause-first
+returns-in-Some-first_broken_set-clause-first c = (
+  c.in_default.ensures.none.0 refl,
+  c.in_default-first_broken_bound.ensures.none.0 refl,
+  c.in_default-first_broken_integer.ensures.none.0 refl,
+  c.in_default-first_broken_semi.ensures.none.0 refl,
+  c.in-Some-first_broken_set.ensures.first,
+)
+
 pub returns-clause-feasible : goal.returns-clause-feasible
 returns-clause-feasible c = (
   λ _. record {
-    den = c.requires.small.den;
-    parts = c.requires.small.parts;
+    den = c.requires.den;
+    parts = c.requires.parts;
     rows = c.in_default.ensures.none.0 refl;
     ends = c.in_default-first_broken_bound.ensures.none.0 refl;
     integers = c.in_default-first_broken_integer.ensures.none.0 refl;
     semis = c.in_default-first_broken_semi.ensures.none.0 refl;
-    sets = λ set x inside. absurd (omega (arith, inside, ap length c.requires.no_sets));
+    sets = c.in_default-first_broken_set.ensures.none.0 refl;
   },
   λ _. refl,
 )

@@ -1,0 +1,21 @@
+use Rattle.std.proofs.Common.{refl, sym, ◌<◌, length, arith}
+use Rattle.std.proofs.lemmas.Bool.{false≢true}
+use Rattle.um_model.specs.Values.{plain_point}
+use Rattle.um_model.specs.Feasible.{SetHolds}
+use Rattle.um_point.proofs.PlaceLemmas.{holds_more, first_failure, not_all}
+use Rattle.um_point.proofs.first_broken.first_broken_set.Goals as goal
+
+pub returns-then-not-set_holds-clause-none : goal.returns-then-not-set_holds-clause-none
+returns-then-not-set_holds-clause-none c =
+    let inside : c.loop-set.set < length c.args.deck.now.sets = omega (arith, c.loop-set-test.true, c.set_count-set-end.ensures) in (
+      λ h. absurd (false≢true (sym h)),
+      λ all. absurd (not_all (SetHolds (plain_point c.args.point.now)) c.args.deck.now.sets c.loop-set.set inside (λ h. false≢true (c.if-not-set_holds.ensures.1 h)) all),
+    )
+
+pub returns-then-not-set_holds-clause-first : goal.returns-then-not-set_holds-clause-first
+returns-then-not-set_holds-clause-first c =
+    let inside : c.loop-set.set < length c.args.deck.now.sets = omega (arith, c.loop-set-test.true, c.set_count-set-end.ensures) in
+    first_failure (SetHolds (plain_point c.args.point.now)) c.args.deck.now.sets c.loop-set.set inside c.loop-set.invariant (λ h. false≢true (c.if-not-set_holds.ensures.1 h))
+
+pub loop-set-preserved : goal.loop-set-preserved
+loop-set-preserved c = holds_more (SetHolds (plain_point c.args.point.now)) c.args.deck.now.sets c.loop-set.set c.loop-set.invariant (c.if-not-set_holds.ensures.0 refl)
