@@ -1,3 +1,4 @@
+pub mod BoxSizes
 pub mod BrokenParts
 pub mod Cover
 pub mod Curves
