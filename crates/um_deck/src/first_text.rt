@@ -1,7 +1,8 @@
 //! The reader of plain decks: texts in normal form of decks that minimise, with whole numbers, rows
 //! with a high side alone, and continuous columns with two finite ends.
 
-ghost use Rattle.std.specs.Prelude.{◌≤◌, ◌<◌, length, OnOk};
+ghost use Rattle.std.specs.Prelude.{◌≤◌, ◌<◌, length, IfOk};
+ghost use Rattle.um_deck.specs.Decks.{IsPlain};
 
 mod columns;
 mod sides;
@@ -22,7 +23,9 @@ const MOST_COLUMNS: usize = 4096;
 /// The deck of which these bytes are the normal text, where it is a plain one.
 ///
 /// The other answers are `NotYet`, for bytes that are no such text, and want of memory.
-pub fn first(alloc: Global, bytes: &[u8]) -> Result<Deck, Fault> {
+pub fn first(alloc: Global, bytes: &[u8]) -> Result<Deck, Fault>
+    ensures { IfOk result IsPlain }
+{
     let mut cursor = Cursor::new(bytes);
     let head = read_head(alloc, &mut cursor)?;
     let mut rows = read_rows(alloc, &mut cursor)?;
@@ -82,7 +85,9 @@ fn finish(
     head: Head,
     rows: List<Row>,
     columns: List<Column>,
-) -> Result<Deck, Fault> {
+) -> Result<Deck, Fault>
+    ensures { IfOk result IsPlain }
+{
     let Head {
         name,
         objective_name,

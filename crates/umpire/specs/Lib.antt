@@ -4,3 +4,5 @@ pub mod Statuses
 pub mod Trees
 pub mod Runs
 pub mod Readings
+pub mod FirstAnswers
+pub mod Checkers

@@ -3,6 +3,7 @@
 ghost use Rattle.std.specs.Prelude.{◌≡◌, ◌+◌, ◌<◌, ◌≤◌, ◌^◌, ℕ, pos, ◌≤ℤ◌, unsigned_abs, length, IfOk, IsTrue, ◌↔◌, All, ◌∷◌, []};
 ghost use Rattle.um_model.specs.declared.multipliers.Price.{Price};
 ghost use Rattle.um_model.specs.Checkable.{IsCheckable, IsCheckablePoint, HasRisingRows};
+ghost use Rattle.umpire.specs.FirstAnswers.{IsFirstAnswer};
 ghost use Rattle.umpire.specs.Trees.{RowsRise, IsLeafOver};
 
 use crate::outcome::TreeWord;
@@ -16,7 +17,8 @@ use um_text::{Cursor, whole};
 ///
 /// The other answers are `NotYet`, for bytes that are no such text, and want of memory.
 pub fn read_first(alloc: Global, deck: &Deck, bytes: &[u8]) -> Result<Answer, TreeWord>
-    ensures { IfOk result (IsCheckable deck.now) }
+    ensures checkable { IfOk result (IsCheckable deck.now) }
+    ensures first { IfOk result IsFirstAnswer }
 {
     let mut cursor = Cursor::new(bytes);
     read_deck_line(&mut cursor, deck)?;
