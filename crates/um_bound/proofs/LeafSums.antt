@@ -14,7 +14,7 @@ use Rattle.um_model.specs.declared.multipliers.Price.{Price}
 use Rattle.um_model.specs.declared.multipliers.Leaf.{Leaf}
 use Rattle.um_model.specs.declared.multipliers.Leaf.TheVariants.{Value, EndlessColumn, EndlessRow}
 use Rattle.um_bound.specs.Sums.{sum_or_missing}
-use Rattle.um_bound.specs.Usable.{AreUsable}
+use Rattle.um_bound.specs.Usable.{IsUsablePrice}
 use Rattle.um_bound.proofs.ColumnValues.{arc_least_none}
 
 -- ---- no more prices than rows
@@ -25,11 +25,11 @@ row_from ps rise (suc k) d l =
     let step : (get_or ps k d).row < (get_or ps (suc k) d).row = rise k (suc k) d (omega arith) l in
     omega (arith, before, step)
 
-pub few_prices : (ps : List Price) (rows : ℕ) → AllPairs (λ (a : Price) (b : Price). a.row < b.row) ps → All (λ (p : Price). p.row < rows) ps → length ps ≤ rows
+pub few_prices : (ps : List Price) (rows : ℕ) → AllPairs (λ (a : Price) (b : Price). a.row < b.row) ps → All (IsUsablePrice rows) ps → length ps ≤ rows
 few_prices [] rows rise inside = omega arith
 few_prices (p ∷ ps) rows rise inside =
     let last : length ps ≤ (get_or (p ∷ ps) (length ps) p).row = row_from (p ∷ ps) rise (length ps) p (omega arith) in
-    let there : (get_or (p ∷ ps) (length ps) p).row < rows = inside (length ps) p (omega arith) in
+    let there : (get_or (p ∷ ps) (length ps) p).row < rows = (inside (length ps) p (omega arith)).inside in
     omega (arith, last, there)
 
 -- ---- the arcs' part

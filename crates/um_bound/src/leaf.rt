@@ -18,7 +18,6 @@ pub fn value(deck: &Deck, node: &NodeBox<'_>, y: &Multipliers) -> Leaf
     requires same_deck { node.now.deck ≡ deck.now }
     requires not_void { ¬ IsVoid deck.now node.now.limits }
     requires usable { AreUsable (length deck.now.rows) (plain_multipliers y.now) }
-    requires no_sets { deck.now.sets ≡ [] }
     requires no_arcs { deck.now.arcs ≡ [] }
     ensures value { result ≡ leaf_value deck.now node.now.limits (plain_multipliers y.now) }
     ensures size { IsSmallLeaf result }

@@ -5,7 +5,7 @@
 //! their range, since decks, boxes and multipliers are of limited size. A leaf value is in
 //! thousandths of the scaled objective times the objective's multiplier.
 //!
-//! For now of decks without sets and arcs.
+//! For now of decks without arcs.
 #![tactic(auto)]
 
 mod columns;
@@ -14,7 +14,12 @@ mod least;
 pub mod reach;
 mod reduced;
 mod rows;
+pub mod usable;
+
+#[cfg(test)]
+mod tests;
 
 pub use leaf::value;
 pub use reach::{bound_of, closes};
 pub use um_model::{Leaf, Multipliers, Price};
+pub use usable::are_usable;

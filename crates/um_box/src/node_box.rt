@@ -1,15 +1,18 @@
 //! The box of a node of a branch and bound tree.
 
-ghost use Rattle.std.specs.Prelude.{◌≡◌, ◌<◌, ◌-◌, [], map, length, IfOk};
+ghost use Rattle.std.specs.Prelude.{◌≡◌, ◌<◌, ◌-◌, ◌<ℤ◌, ◌↔◌, map, length, IfOk, IsTrue, IsSomeAnd};
+ghost use Rattle.std.specs.Option.{MatchOption};
+ghost use Rattle.std.specs.List.{list_any, enumerate_from};
 ghost use Rattle.um_model.specs.Values.{plain_column, plain_set};
-ghost use Rattle.um_model.specs.Boxes.{root, ends_of};
+ghost use Rattle.um_model.specs.Boxes.{root, ends_of, is_shut_out, IsVoid, IsFirstCrossed};
+ghost use Rattle.um_box.specs.ShutOut.{is_held, is_shut_out_of};
 ghost use Rattle.um_model.specs.declared.deck.Column.{Column};
 ghost use Rattle.um_model.specs.declared.deck.OrderedSet.{OrderedSet};
 
 use crate::limits::{Ends, Span};
 use std::alloc::Global;
 use std::marker::Model;
-use um_deck::{Column, Deck, OrderedSet};
+use um_deck::{Column, Deck, Member, OrderedSet};
 use um_num::{List, Memory};
 
 /// A box of a deck: ends for each column, and an interval for each set.
@@ -56,16 +59,81 @@ impl<'d> NodeBox<'d> {
         self.deck
     }
 
-    /// The low and the high end of a column, in thousandths; `None` is infinite. For now of decks
-    /// without sets.
+    /// The low and the high end of a column, in thousandths; `None` is infinite. A member outside its
+    /// set's interval has the high end 0.
     pub fn ends(&self, column: u32) -> (Option<i64>, Option<i64>)
-        requires inside { column < length self.now.deck.columns }
-        requires no_sets { self.now.deck.sets ≡ [] }
+        requires { column < length self.now.deck.columns }
         ensures { result ≡ ((ends_of self.now.deck self.now.limits column).low, (ends_of self.now.deck self.now.limits column).high) }
     {
         let ends = self.ends.as_slice()[column as usize];
-        (ends.low, ends.high)
+        if self.is_shut_out(column) {
+            (ends.low, Some(0))
+        } else {
+            (ends.low, ends.high)
+        }
     }
+
+    fn is_shut_out(&self, column: u32) -> bool
+        ensures { result ≡ is_shut_out self.now.deck self.now.limits column }
+    {
+        is_member_shut_out(self.spans.as_slice(), self.deck.sets(), column)
+    }
+
+    /// The first column whose low end is above its high end; `None` where the box is not void.
+    pub fn first_crossed(&self) -> Option<u32>
+        ensures { MatchOption result (IsVoid self.now.deck self.now.limits → ⊥) (IsFirstCrossed self.now.deck self.now.limits) }
+    {
+        self.deck.known();
+        for index in 0..self.ends.len() {
+            let column = index as u32;
+            let (low, high) = self.ends(column);
+            if is_crossed(low, high) {
+                return Some(column);
+            }
+        }
+        None
+    }
+}
+
+fn is_crossed(low: Option<i64>, high: Option<i64>) -> bool
+    ensures { IsTrue result ↔ IsSomeAnd low (λ l. IsSomeAnd high (λ h. h <ℤ l)) }
+{
+    match (low, high) {
+        (Some(low), Some(high)) => high < low,
+        _ => false,
+    }
+}
+
+/// Whether the column is a member of some set outside that set's interval.
+fn is_member_shut_out(spans: &[Span], sets: &[OrderedSet], column: u32) -> bool
+    requires { length spans.now ≡ length sets.now }
+    ensures { result ≡ is_shut_out_of spans.now (map plain_set sets.now) column }
+{
+    for place in 0..sets.len() {
+        if is_outside(&spans[place], sets[place].members.as_slice(), column) {
+            return true;
+        }
+    }
+    false
+}
+
+/// Whether the column is a member of the set outside this interval.
+fn is_outside(span: &Span, members: &[Member], column: u32) -> bool
+    ensures { result ≡ list_any (is_held span.now column) (enumerate_from 0 members.now) }
+{
+    for position in 0..members.len() {
+        if is_held(span, column, position, &members[position]) {
+            return true;
+        }
+    }
+    false
+}
+
+/// Whether the member at this position is the column and lies outside the interval.
+fn is_held(span: &Span, column: u32, position: usize, member: &Member) -> bool
+    ensures { result ≡ is_held span.now column (position, member.now) }
+{
+    member.column == column && (position < span.first || span.last < position)
 }
 
 /// The ends that columns have by themselves.

@@ -7,12 +7,12 @@ use Rattle.um_bound.proofs.leaf.value.Goals as goal
 
 pub rows_part-requires-clause-few : goal.rows_part-requires-clause-few
 rows_part-requires-clause-few c =
-    let few = few_prices c.args.y.now.rows.items (length c.args.deck.now.rows) c.requires.usable.rise c.requires.usable.inside in
+    let few = few_prices c.args.y.now.rows.items (length c.args.deck.now.rows) c.requires.usable.rise c.requires.usable.prices in
     subst (λ (ps : List Price). length ps ≤ 512) (sym c.as_slice.ensures) (omega (arith, few, c.known.ensures.formed.row_count))
 
 pub columns_part-requires-clause-few : goal.columns_part-requires-clause-few
 columns_part-requires-clause-few c =
-    let few = few_prices c.args.y.now.rows.items (length c.args.deck.now.rows) c.requires.usable.rise c.requires.usable.inside in
+    let few = few_prices c.args.y.now.rows.items (length c.args.deck.now.rows) c.requires.usable.rise c.requires.usable.prices in
     omega (arith, few, c.known.ensures.formed.row_count)
 
 pub returns-in-Err-columns_part-clause-value : goal.returns-in-Err-columns_part-clause-value
