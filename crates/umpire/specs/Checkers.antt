@@ -1,10 +1,13 @@
 -- What a checker keeps, and the verdicts on the parts of an answer.
-use Rattle.std.specs.Prelude.{◌≡◌, ℕ, ◌∷◌, []}
+use Rattle.std.specs.Prelude.{◌≡◌, ℕ, ◌<◌, ◌^◌, ℤ, pos, ◌≤ℤ◌, unsigned_abs}
 use Rattle.um_box.specs.NodeBoxes.{NodeBoxValue}
 use Rattle.um_deck.specs.Decks.{IsDeckNow, IsPlain}
-use Rattle.um_model.specs.Values.{DeckValue}
+use Rattle.um_model.specs.Values.{DeckValue, plain_multipliers}
 use Rattle.um_model.specs.Boxes.{root}
-use Rattle.um_model.specs.Accepted.{First, by_answer, by_node, NumbersSmall, PointFeasible, ObjectiveHolds, RayHolds, TreeVerdict, LeafVerdict, BoundHolds}
+use Rattle.um_model.specs.LeafValue.{leaf_value}
+use Rattle.um_model.specs.declared.multipliers.Leaf.TheVariants.{Value}
+use Rattle.umpire.specs.FirstAnswers.{IsTheLeaf}
+use Rattle.um_model.specs.Accepted.{First, by_answer, by_node, NumbersSmall, PointFeasible, ObjectiveHolds, RayHolds, TreeVerdict, LeafVerdict, BoundedHolds, BoundHolds}
 use Rattle.um_model.specs.declared.answer.Answer.{Answer}
 use Rattle.um_model.specs.declared.tree.What.TheVariants.{Bounded}
 use Rattle.um_model.specs.declared.multipliers.Multipliers.{Multipliers}
@@ -32,6 +35,18 @@ NumbersOn d a v = First (NumbersSmall a) (by_answer reason.Wide) (PointOn d a) v
 
 abbrev pub BoundOn : DeckValue → Answer → Verdict → Type 0
 BoundOn d a v = First (BoundHolds d a) (by_answer reason.BoundWord) (λ w. w ≡ Yes) v
+
+-- from the leaf's bound on
+abbrev pub ValueOn : DeckValue → Answer → Multipliers → Verdict → Type 0
+ValueOn d a y v = First (BoundedHolds d a (root d) y) (by_node 0 reason.Bound) (BoundOn d a) v
+
+-- the value of the leaf, under multipliers that may be used
+pub record LeafValueIs (d : DeckValue) (a : Answer) (y : Multipliers) (value : ℤ) : Type 0 where
+  pub y0 : pos 0 ≤ℤ y.y0
+  pub y0_size : unsigned_abs y.y0 < 2 ^ 40
+  pub leaf : IsTheLeaf a.tree y
+  pub value_is : leaf_value d (root d) (plain_multipliers y) ≡ Value value
+  pub size : unsigned_abs value < 2 ^ 126
 
 -- the verdict on a bounded leaf that is the whole tree
 abbrev pub LeafOn : DeckValue → Answer → Multipliers → Verdict → Type 0

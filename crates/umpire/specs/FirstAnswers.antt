@@ -2,6 +2,7 @@
 use Rattle.std.specs.Prelude.{◌≡◌, ℕ, List, [], ◌∷◌, None, IsSome, ⊤}
 use Rattle.um_model.specs.declared.answer.Answer.{Answer}
 use Rattle.um_model.specs.declared.answer.AnswerKind.TheVariants.{Optimal}
+use Rattle.um_model.specs.declared.multipliers.Multipliers.{Multipliers}
 use Rattle.um_model.specs.declared.tree.Node.{Node}
 use Rattle.um_model.specs.declared.tree.What.{What}
 use Rattle.um_model.specs.declared.tree.What.TheVariants.{Split, Bounded, Empty, Void, OpenLeaf}
@@ -27,3 +28,9 @@ pub record IsFirstAnswer (a : Answer) : Type 0 where
   pub point : IsSome a.point
   pub ray : a.ray ≡ None
   pub tree : IsOneLeaf a.tree
+
+-- the tree is one leaf with these multipliers
+abbrev pub IsTheLeaf : List Node → Multipliers → Type 0
+IsTheLeaf [] y = ⊥
+IsTheLeaf (n ∷ []) y = n.what ≡ Bounded y
+IsTheLeaf (n ∷ (m ∷ ns)) y = ⊥

@@ -1,6 +1,6 @@
 //! The checker: whether a tree proves its answer, and if not, why not.
 
-ghost use Rattle.std.specs.Prelude.{◌≡◌, IfOk, [], IsTrue, ◌↔◌};
+ghost use Rattle.std.specs.Prelude.{◌≡◌, IfOk, Some, None};
 ghost use Rattle.um_model.specs.Accepted.{IsVerdict};
 ghost use Rattle.um_model.specs.Checkable.{IsCheckable};
 ghost use Rattle.umpire.specs.FirstAnswers.{IsFirstAnswer};

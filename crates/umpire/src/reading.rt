@@ -1,6 +1,9 @@
 //! From the names of a deck and a tree to the verdict.
 
-ghost use Rattle.std.specs.Prelude.{◌≡◌, false, OnOk, IfErr};
+ghost use Rattle.std.specs.Prelude.{◌≡◌, false, OnOk, IfOk, IfErr};
+ghost use Rattle.um_deck.specs.Decks.{IsPlain};
+ghost use Rattle.um_model.specs.Checkable.{IsCheckable};
+ghost use Rattle.umpire.specs.FirstAnswers.{IsFirstAnswer};
 ghost use Rattle.um_outside.specs.Scenes.{Idle};
 ghost use Rattle.umpire.specs.Runs.{MakesNoFile};
 ghost use Rattle.umpire.specs.Readings.{WentOn, WasStopped, deck_stop, tree_stop};
@@ -51,6 +54,9 @@ pub fn judge<D: Desk>(alloc: Global, desk: &mut D, files: &CheckFiles<'_>) -> Re
 }
 
 fn check(alloc: Global, deck: &Deck, answer: &Answer) -> Result<Verdict, Stop>
+    requires plain { IsPlain deck.now }
+    requires checkable { IsCheckable deck.now answer.now }
+    requires first { IsFirstAnswer answer.now }
     ensures { IfErr result (λ stop. stop ≡ Stop.Memory) }
 {
     let mut checker = Checker::new(alloc, deck)?;
@@ -62,6 +68,7 @@ fn read_deck<D: Desk>(alloc: Global, desk: &mut D, name: &str) -> Result<Deck, S
     requires idle { (D.scene desk.old).mode ≡ Idle }
     requires going { (D.scene desk.old).stopped ≡ false }
     ensures ok { OnOk result (WentOn (D.scene desk.old) (D.scene desk.new)) }
+    ensures plain { IfOk result IsPlain }
     ensures err { IfErr result (λ stop. WasStopped stop (D.scene desk.old) (D.scene desk.new)) }
 {
     let bytes = match read_file(alloc, desk, name, MOST_BYTES) {
@@ -80,6 +87,8 @@ fn read_tree<D: Desk>(alloc: Global, desk: &mut D, deck: &Deck, name: &str) -> R
     requires idle { (D.scene desk.old).mode ≡ Idle }
     requires going { (D.scene desk.old).stopped ≡ false }
     ensures ok { OnOk result (WentOn (D.scene desk.old) (D.scene desk.new)) }
+    ensures checkable { IfOk result (IsCheckable deck.now) }
+    ensures first { IfOk result IsFirstAnswer }
     ensures err { IfErr result (λ stop. WasStopped stop (D.scene desk.old) (D.scene desk.new)) }
 {
     let bytes = match read_file(alloc, desk, name, MOST_BYTES) {

@@ -1,6 +1,6 @@
 //! What is looked at before the tree: the numbers, the point and its objective.
 
-ghost use Rattle.std.specs.Prelude.{◌≡◌, ◌<◌, ◌^◌, ℤ, All, IsTrue, ◌↔◌, unsigned_abs};
+ghost use Rattle.std.specs.Prelude.{◌≡◌, ◌<◌, ◌^◌, None, pos, All, IsTrue, ◌↔◌, unsigned_abs};
 ghost use Rattle.um_model.specs.Accepted.{IsSmallPoint, NumbersSmall, PointFeasible, ObjectiveHolds};
 ghost use Rattle.um_model.specs.Checkable.{IsCheckable};
 ghost use Rattle.umpire.specs.Checkers.{IsChecker, NumbersOn, PointOn};
