@@ -67,14 +67,17 @@ module _ (d n : DeckValue) (b : BoxValue) (y : MultipliersValue) (rs : List Row)
   columns_here o e = e ∙ ap (λ (x : DeckValue). columns_outcome x b y) deck
 
   pub endless_row_is : (r : ℕ) → Err r ≡ rows_outcome rs ps → EndlessRow r ≡ leaf_value d b y
+  unfolding leaf_value
   endless_row_is r e = row_first (find (is_endless_row d) y.rows) (find (is_endless_column d b y) (enumerate_from 0 d.columns)) r (total (row_least d) y.rows) (leaf_total d b y) (rows_here (Err r) e)
 
   pub endless_column_is : (s : ℤ) (c : ℕ) → Ok s ≡ rows_outcome rs ps → Err c ≡ columns_outcome n b y → EndlessColumn c ≡ leaf_value d b y
+  unfolding leaf_value
   endless_column_is s c e f =
       column_next (find (is_endless_row d) y.rows) (find (is_endless_column d b y) (enumerate_from 0 d.columns)) 0 c (total (row_least d) y.rows) (total (linear_least d b y) (enumerate_from 0 d.columns)) (leaf_total d b y) s
       (rows_here (Ok s) e) (columns_here (Err c) f)
 
   pub value_is : d.arcs ≡ [] → (s c k : ℤ) → Ok s ≡ rows_outcome rs ps → Ok c ≡ columns_outcome n b y → k ≡ pos 1000 *ℤ y.y0 *ℤ d.constant → (v : ℤ) → v ≡ s +ℤ c +ℤ k → Value v ≡ leaf_value d b y
+  unfolding leaf_value
   value_is none s c k e f g v h =
       let z : floor_div (total (arc_least d b y) (enumerate_from 0 d.columns)) 1000 ≡ pos 0 = ap (λ (x : ℤ). floor_div x 1000) (arcs_none d b y (enumerate_from 0 d.columns) none) in
       value_last (find (is_endless_row d) y.rows) (find (is_endless_column d b y) (enumerate_from 0 d.columns)) (total (row_least d) y.rows) (total (linear_least d b y) (enumerate_from 0 d.columns)) (leaf_total d b y) s c

@@ -1,7 +1,7 @@
 use Rattle.std.proofs.Common.{◌≤◌, ◌∙◌, ◌*◌, ◌^◌, length, arith, ap, sym, subst, ℕ, List}
 use Rattle.um_model.specs.Values.{plain_multipliers}
 use Rattle.um_model.specs.declared.multipliers.Price.{Price}
-use Rattle.um_bound.proofs.LeafSums.{few_prices, endless_column_is, value_is}
+use Rattle.um_bound.proofs.LeafSums.{few_prices, endless_row_is, endless_column_is, value_is}
 use Rattle.um_bound.proofs.MachineSteps.{three_is}
 use Rattle.um_bound.proofs.leaf.value.Goals as goal
 
@@ -14,6 +14,11 @@ pub columns_part-requires-clause-few : goal.columns_part-requires-clause-few
 columns_part-requires-clause-few c =
     let few = few_prices c.args.y.now.rows.items (length c.args.deck.now.rows) c.requires.usable.rise c.requires.usable.prices in
     omega (arith, few, c.known.ensures.formed.row_count)
+
+pub returns-in-Err-clause-value : goal.returns-in-Err-clause-value
+returns-in-Err-clause-value c =
+    endless_row_is c.args.deck.now c.args.node.now.deck c.args.node.now.limits (plain_multipliers c.args.y.now) c.rows.result.now c.as_slice.result.now c.requires.same_deck c.rows.ensures c.as_slice.ensures
+    c.in-Err.row c.in-Err.ensures.value
 
 pub returns-in-Err-columns_part-clause-value : goal.returns-in-Err-columns_part-clause-value
 returns-in-Err-columns_part-clause-value c =
