@@ -1,6 +1,6 @@
 //! The checker: whether a tree proves its answer, and if not, why not.
 
-ghost use Rattle.std.specs.Prelude.{◌≡◌, IfOk, Some, None};
+ghost use Rattle.std.specs.Prelude.{◌≡◌, ◌↔◌, IsTrue, IfOk, Some, None};
 ghost use Rattle.um_model.specs.Accepted.{IsVerdict};
 ghost use Rattle.um_model.specs.Checkable.{IsCheckable};
 ghost use Rattle.umpire.specs.FirstAnswers.{IsFirstAnswer};
@@ -14,7 +14,7 @@ use std::marker::Model;
 use um_box::NodeBox;
 use um_deck::Deck;
 use um_model::{Answer, Reason, Verdict};
-use um_num::Memory;
+use um_num::{Frac, Memory};
 
 /// Checks answers against one deck. For now a deck without sets and arcs.
 #[derive(Drop)]
@@ -53,10 +53,11 @@ impl<'d> Checker<'d> {
         ensures verdict { IsVerdict self.old answer.now result }
         ensures deck { self.new ≡ self.old }
     {
+        let deck = self.deck;
         if answer.tolerance != 0 {
             return no(Reason::Tolerance);
         }
-        point::on_numbers(self.deck, &self.root, answer)
+        point::on_numbers(deck, &self.root, answer)
     }
 }
 
@@ -75,4 +76,11 @@ fn no_at_root(reason: Reason) -> Verdict
         node: Some(0),
         reason,
     }
+}
+
+#[tactic(auto, using(um_num::proofs::Parts::same_is))]
+fn is_same(left: &Frac, right: &Frac) -> bool
+    ensures { IsTrue result ↔ (left.now ≡ right.now) }
+{
+    left == right
 }

@@ -8,7 +8,7 @@ ghost use Rattle.um_model.specs.declared.multipliers.Price.{Price};
 ghost use Rattle.umpire.specs.Checkers.{IsChecker, RayOn, LeafOn, ValueOn, LeafValueIs};
 ghost use Rattle.umpire.specs.FirstAnswers.{IsFirstAnswer, IsTheLeaf};
 
-use crate::checker::{no, no_at_root};
+use crate::checker::{is_same, no, no_at_root};
 use um_bound::{bound_of, closes, value};
 use um_box::NodeBox;
 use um_deck::Deck;
@@ -60,7 +60,8 @@ fn on_leaf(deck: &Deck, root: &NodeBox<'_>, answer: &Answer, y: &Multipliers) ->
     }
     match value(deck, root, y) {
         Leaf::Value(value) => on_value(deck, answer, y, value),
-        _ => no_at_root(Reason::Sign),
+        Leaf::EndlessRow(_) => no_at_root(Reason::Sign),
+        Leaf::EndlessColumn(_) => no_at_root(Reason::Sign),
     }
 }
 
@@ -100,7 +101,7 @@ fn has_bound(deck: &Deck, answer: &Answer, y: &Multipliers, value: i128) -> bool
     ensures { IsTrue result ↔ BoundHolds deck.now answer.now }
 {
     match &answer.bound {
-        Some(bound) => bound_of(deck, y.y0, value) == *bound,
+        Some(bound) => is_same(&bound_of(deck, y.y0, value), bound),
         None => false,
     }
 }

@@ -6,7 +6,7 @@ ghost use Rattle.um_model.specs.Checkable.{IsCheckable};
 ghost use Rattle.umpire.specs.Checkers.{IsChecker, NumbersOn, PointOn};
 ghost use Rattle.umpire.specs.FirstAnswers.{IsFirstAnswer};
 
-use crate::checker::{leaf, no};
+use crate::checker::{is_same, leaf, no};
 use um_box::NodeBox;
 use um_deck::Deck;
 use um_model::{Answer, Point, Reason, Verdict};
@@ -92,7 +92,7 @@ fn has_objective(deck: &Deck, answer: &Answer) -> bool
     ensures { IsTrue result ↔ ObjectiveHolds deck.now answer.now }
 {
     match (&answer.point, &answer.objective) {
-        (Some(point), Some(stated)) => objective(deck, point) == *stated,
+        (Some(point), Some(stated)) => is_same(&objective(deck, point), stated),
         _ => true,
     }
 }
