@@ -1,3 +1,4 @@
+pub mod AcceptedTrees
 pub mod BoxSizes
 pub mod BrokenParts
 pub mod Cover
@@ -17,4 +18,5 @@ pub mod Rounding
 pub mod Scaling
 pub mod SetExamples
 pub mod Sparse
+pub mod Verdicts
 pub mod VoidBoxes
