@@ -1,11 +1,36 @@
 //! A deck of one row, whose values were worked out by hand.
 
+ghost use Rattle.std.specs.Prelude.{◌≡◌, []};
+ghost use Rattle.um_model.specs.Boxes.{IsVoid};
+
 use super::*;
+use std::alloc::Global;
 use um_box::NodeBox;
-use um_num::{Frac, List};
+use um_deck::Deck;
+use um_num::{Frac, List, Memory};
 
 /// Least -x - 2y with x + y at most 4, x from 0 to 3 and y from 0 to 2.
-const ONE_ROW: &[u8] = b"NAME ROW1\nROWS\n N COST\n L R1\nCOLUMNS\n x COST -1\n x R1 1\n y COST -2\n y R1 1\nRHS\n RHS R1 4\nBOUNDS\n LO BND x 0\n UP BND x 3\n LO BND y 0\n UP BND y 2\nENDATA\n";
+const ONE_ROW: &[u8] =
+    b"NAME ROW1\nROWS\n N COST\n L R1\nCOLUMNS\n x COST -1\n x R1 1\n y COST -2\n y R1 1\nRHS\n RHS R1 4\nBOUNDS\n LO BND x 0\n UP BND x 3\n LO BND y 0\n UP BND y 2\nENDATA\n";
+
+/// The value under these prices and 1 for the objective; `None` where they are not usable.
+fn value_under(
+    alloc: Global,
+    deck: &Deck,
+    node: &NodeBox<'_>,
+    prices: &[Price],
+) -> Result<Option<Leaf>, Memory>
+    requires same_deck { node.now.deck ≡ deck.now }
+    requires not_void { ¬ IsVoid deck.now node.now.limits }
+    requires no_arcs { deck.now.arcs ≡ [] }
+{
+    let rows = List::from_slice(alloc, prices)?;
+    let y = Multipliers { y0: 1, rows };
+    if !are_usable(deck.rows().len(), &y) {
+        return Ok(None);
+    }
+    Ok(Some(value(deck, node, &y)))
+}
 
 #[test]
 fn one_row(rt: HostRuntime) {
@@ -21,16 +46,18 @@ fn one_row(rt: HostRuntime) {
     };
     let below = Price { row: 0, value: -1 };
     let above = Price { row: 0, value: 1 };
-    for (prices, want) in [
-        (&[below][..], Leaf::Value(-6000)),
-        (&[][..], Leaf::Value(-7000)),
-        (&[above][..], Leaf::EndlessRow(0)),
-    ] {
-        let rows = List::from_slice(alloc, prices).expect(&rt, "memory");
-        let y = Multipliers { y0: 1, rows };
-        assert!(rt; are_usable(deck.rows().len(), &y));
-        assert_eq!(rt; value(&deck, &node, &y), want);
-    }
+    assert_eq!(rt;
+        value_under(alloc, &deck, &node, &[below]),
+        Ok(Some(Leaf::Value(-6000)))
+    );
+    assert_eq!(rt;
+        value_under(alloc, &deck, &node, &[]),
+        Ok(Some(Leaf::Value(-7000)))
+    );
+    assert_eq!(rt;
+        value_under(alloc, &deck, &node, &[above]),
+        Ok(Some(Leaf::EndlessRow(0)))
+    );
     assert!(rt; closes(&deck, 1, -6000, &Frac::new(-6, 1), 0));
     assert!(rt; !closes(&deck, 1, -6000, &Frac::new(-5, 1), 0));
     assert!(rt; closes(&deck, 1, -6000, &Frac::new(-5, 1), 1000));
