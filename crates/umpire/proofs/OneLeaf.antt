@@ -73,14 +73,15 @@ pub bound_test : (d : DeckValue) (a : Answer) (y : Multipliers) (value : ℤ) (b
     → BoundHolds d a ↔ (leaf_bound d y.y0 value ≡ b)
 bound_test d a y value b leaf e stated =
     let x : Rational = leaf_bound d y.y0 value in
-    let are : bounds_of d (root d ∷ []) a.tree ≡ Some x ∷ [] = bounds_are d y value a.tree leaf e in
-    (λ h.
-        let here : IsBoundOf (bounds_of d (root d ∷ []) a.tree) (Some b) = subst (IsBoundOf (bounds_of d (root d ∷ []) a.tree)) stated h in
-        let one : IsLeast (Some x ∷ []) b = subst (λ (bs : List (Option Rational)). IsBoundOf bs (Some b)) are here in
-        among_one x b one.among,
-    λ same.
-        let here : IsBoundOf (bounds_of d (root d ∷ []) a.tree) (Some b) = subst (λ (bs : List (Option Rational)). IsBoundOf bs (Some b)) (sym are) (least_one x b same) in
-        subst (IsBoundOf (bounds_of d (root d ∷ []) a.tree)) (sym stated) here)
+    let are : bounds_of d (root d ∷ []) a.tree ≡ Some x ∷ [] = bounds_are d y value a.tree leaf e in (
+      λ h.
+          let here : IsBoundOf (bounds_of d (root d ∷ []) a.tree) (Some b) = subst (IsBoundOf (bounds_of d (root d ∷ []) a.tree)) stated h in
+          let one : IsLeast (Some x ∷ []) b = subst (λ (bs : List (Option Rational)). IsBoundOf bs (Some b)) are here in
+          among_one x b one.among,
+      λ same.
+          let here : IsBoundOf (bounds_of d (root d ∷ []) a.tree) (Some b) = subst (λ (bs : List (Option Rational)). IsBoundOf bs (Some b)) (sym are) (least_one x b same) in
+          subst (IsBoundOf (bounds_of d (root d ∷ []) a.tree)) (sym stated) here,
+    )
 
 -- ---- the objective
 

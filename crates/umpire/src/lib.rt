@@ -18,3 +18,6 @@ pub use checker::Checker;
 pub use outcome::{Outcome, ReadFault, Refusal, Status, TreeFault, TreeWord, WordFault};
 pub use top::run;
 pub use um_model::{Reason, Verdict};
+
+#[cfg(test)]
+mod tests;

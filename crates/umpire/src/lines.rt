@@ -50,9 +50,7 @@ fn refusal_string(alloc: Global, refusal: &Refusal) -> Result<String, AllocError
 {
     match refusal {
         Refusal::Words(WordFault::Line) => format!(in alloc; "words refused: Line\n"),
-        Refusal::LowTolerance { least: _ } => {
-            format!(in alloc; "words refused: LowTolerance\n")
-        }
+        Refusal::LowTolerance { least: _ } => { format!(in alloc; "words refused: LowTolerance\n") }
         Refusal::Deck(ReadFault { line, fault }) => {
             let word = deck_word(*fault);
             format!(in alloc; "deck refused: {word} at line {line}\n")

@@ -12,25 +12,47 @@ value-requires-clause-not_void c = λ void. root_not_void c.args.deck.now c.requ
 
 pub returns-then-not-are_multipliers_small : goal.returns-then-not-are_multipliers_small
 returns-then-not-are_multipliers_small c =
-    inl (root_not_void c.args.deck.now c.requires.checker.formed.formed c.requires.checker.plain.sets,
-    inr (λ h. false≢true (c.if-not-are_multipliers_small.ensures.1 h), c.no_at_root.ensures))
+    inl (
+      root_not_void c.args.deck.now c.requires.checker.formed.formed c.requires.checker.plain.sets,
+      inr (λ h. false≢true (c.if-not-are_multipliers_small.ensures.1 h), c.no_at_root.ensures),
+    )
 
 pub returns-then-y-lt0 : goal.returns-then-y-lt0
 returns-then-y-lt0 c =
-    inl (root_not_void c.args.deck.now c.requires.checker.formed.formed c.requires.checker.plain.sets, inl (c.if-not-are_multipliers_small.ensures.0 refl,
-    inr (λ h. let positive = h.y0 in omega (arith, ints, positive, c.if-y-lt0.true), c.no_at_root-then-y-lt0.ensures)))
+    inl (
+      root_not_void c.args.deck.now c.requires.checker.formed.formed c.requires.checker.plain.sets,
+      inl (
+        c.if-not-are_multipliers_small.ensures.0 refl,
+        inr (λ h. let positive = h.y0 in omega (arith, ints, positive, c.if-y-lt0.true), c.no_at_root-then-y-lt0.ensures),
+      ),
+    )
 
 pub returns-in-Value : goal.returns-in-Value
 returns-in-Value c =
-    inl (root_not_void c.args.deck.now c.requires.checker.formed.formed c.requires.checker.plain.sets, inl (c.if-not-are_multipliers_small.ensures.0 refl,
-    inl (sign_is c.args.deck.now c.args.root.now.limits c.args.y.now c.in-Value.value c.requires.checker.limits c.in-Value.ensures.value (omega (arith, ints, c.if-y-lt0.false)), c.on_value.ensures)))
+    inl (
+      root_not_void c.args.deck.now c.requires.checker.formed.formed c.requires.checker.plain.sets,
+      inl (
+        c.if-not-are_multipliers_small.ensures.0 refl,
+        inl (sign_is c.args.deck.now c.args.root.now.limits c.args.y.now c.in-Value.value c.requires.checker.limits c.in-Value.ensures.value (omega (arith, ints, c.if-y-lt0.false)), c.on_value.ensures),
+      ),
+    )
 
 pub returns-in-EndlessRow : goal.returns-in-EndlessRow
 returns-in-EndlessRow c =
-    inl (root_not_void c.args.deck.now c.requires.checker.formed.formed c.requires.checker.plain.sets, inl (c.if-not-are_multipliers_small.ensures.0 refl,
-    inr (sign_fails c.args.deck.now c.args.root.now.limits c.args.y.now (EndlessRow c.in-EndlessRow.field-0) c.requires.checker.limits c.in-EndlessRow.ensures.value (λ h. h), c.no_at_root-in-EndlessRow.ensures)))
+    inl (
+      root_not_void c.args.deck.now c.requires.checker.formed.formed c.requires.checker.plain.sets,
+      inl (
+        c.if-not-are_multipliers_small.ensures.0 refl,
+        inr (sign_fails c.args.deck.now c.args.root.now.limits c.args.y.now (EndlessRow c.in-EndlessRow.field-0) c.requires.checker.limits c.in-EndlessRow.ensures.value (λ h. h), c.no_at_root-in-EndlessRow.ensures),
+      ),
+    )
 
 pub returns-in-EndlessColumn : goal.returns-in-EndlessColumn
 returns-in-EndlessColumn c =
-    inl (root_not_void c.args.deck.now c.requires.checker.formed.formed c.requires.checker.plain.sets, inl (c.if-not-are_multipliers_small.ensures.0 refl,
-    inr (sign_fails c.args.deck.now c.args.root.now.limits c.args.y.now (EndlessColumn c.in-EndlessColumn.field-0) c.requires.checker.limits c.in-EndlessColumn.ensures.value (λ h. h), c.no_at_root-in-EndlessColumn.ensures)))
+    inl (
+      root_not_void c.args.deck.now c.requires.checker.formed.formed c.requires.checker.plain.sets,
+      inl (
+        c.if-not-are_multipliers_small.ensures.0 refl,
+        inr (sign_fails c.args.deck.now c.args.root.now.limits c.args.y.now (EndlessColumn c.in-EndlessColumn.field-0) c.requires.checker.limits c.in-EndlessColumn.ensures.value (λ h. h), c.no_at_root-in-EndlessColumn.ensures),
+      ),
+    )
