@@ -1,9 +1,8 @@
 -- The parts of a leaf value put together.
-use Rattle.std.proofs.Common.{◌≡◌, ◌∙◌, ap, sym, subst, refl, ℕ, ◌+◌, ◌*◌, ◌^◌, ◌<◌, ◌≤◌, zero, suc, ℤ, pos, ◌+ℤ◌, ◌*ℤ◌, unsigned_abs, List, [], ◌∷◌, length, get_or, arith, Option, Some, None}
+use Rattle.std.proofs.Common.{◌≡◌, ◌∙◌, ap, ℕ, ◌<◌, ◌≤◌, zero, suc, ℤ, pos, ◌+ℤ◌, ◌*ℤ◌, List, [], ◌∷◌, length, get_or, arith, Option, Some, None}
 use Rattle.std.specs.Prelude.{AllPairs, All, find, is_none, unwrap_or, option_map, slice_get, Result, Ok, Err}
 use Rattle.std.specs.List.{enumerate_from}
 use Rattle.std.proofs.lemmas.Int.{ints}
-use Rattle.um_laws.specs.Sums.{sum_of}
 use Rattle.um_laws.proofs.SumLaws.{sum_of-same, sum_of-zero}
 use Rattle.um_model.specs.Values.{DeckValue, ColumnValue, MultipliersValue}
 use Rattle.um_model.specs.Boxes.{BoxValue}
@@ -11,7 +10,6 @@ use Rattle.um_model.specs.Rounding.{floor_div}
 use Rattle.um_model.specs.LeafValue.{row_least, row_least_in, linear_least, arc_least, total, leaf_total, leaf_of, leaf_value, is_endless_row, is_endless_column}
 use Rattle.um_model.specs.declared.deck.Row.{Row}
 use Rattle.um_model.specs.declared.multipliers.Price.{Price}
-use Rattle.um_model.specs.declared.multipliers.Leaf.{Leaf}
 use Rattle.um_model.specs.declared.multipliers.Leaf.TheVariants.{Value, EndlessColumn, EndlessRow}
 use Rattle.um_bound.specs.Sums.{sum_or_missing}
 use Rattle.um_bound.specs.Usable.{IsUsablePrice}

@@ -1,4 +1,4 @@
-use Rattle.std.proofs.Common.{◌≤◌, ◌∙◌, ◌*◌, ◌^◌, length, arith, ap, sym, subst, ℕ, List}
+use Rattle.std.proofs.Common.{◌≤◌, ◌∙◌, ◌*◌, ◌^◌, length, arith, sym, subst, List}
 use Rattle.um_model.specs.Values.{plain_multipliers}
 use Rattle.um_model.specs.declared.multipliers.Price.{Price}
 use Rattle.um_bound.proofs.LeafSums.{few_prices, endless_column_is, value_is}
