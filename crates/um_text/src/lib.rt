@@ -6,6 +6,7 @@
 #![tactic(auto)]
 
 pub mod cursor;
+mod digits;
 pub mod numeral;
 
 pub use cursor::{Cursor, Unexpected};
