@@ -6,8 +6,10 @@
 #![tactic(auto)]
 
 pub mod cursor;
+pub mod decimals;
 mod digits;
 pub mod numeral;
 
 pub use cursor::{Cursor, Unexpected};
+pub use decimals::decimal;
 pub use numeral::{NumberFault, whole};
