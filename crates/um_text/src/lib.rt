@@ -8,8 +8,12 @@
 pub mod cursor;
 pub mod decimals;
 mod digits;
+pub mod lines;
 pub mod numeral;
+pub mod words;
 
 pub use cursor::{Cursor, Unexpected};
 pub use decimals::decimal;
+pub use lines::{Lines, lines_of};
 pub use numeral::{NumberFault, whole};
+pub use words::{Words, words_of};
