@@ -1,3 +1,13 @@
 pub mod Stops
 pub mod OneLeaf
 pub mod RootBox
+pub mod Stepping
+pub mod Rising
+pub mod Lists
+pub mod Numerals
+pub mod NumeralValues
+pub mod WordEnds
+pub mod WordForms
+pub mod TextParts
+pub mod LeafTexts
+pub mod WholeTexts

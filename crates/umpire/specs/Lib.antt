@@ -6,3 +6,7 @@ pub mod Runs
 pub mod Readings
 pub mod FirstAnswers
 pub mod Checkers
+pub mod AnswerValues
+pub mod TreeText
+pub mod FirstTrees
+pub mod TreeReading
