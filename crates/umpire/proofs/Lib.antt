@@ -1,3 +1,4 @@
 pub mod Stops
 pub mod OneLeaf
 pub mod RootBox
+pub mod Faults
