@@ -15,7 +15,8 @@ use um_text::{Cursor, whole};
 
 /// The answer of which these bytes are the text for this deck, where its tree is one bounded leaf.
 ///
-/// The other answers are `NotYet`, for bytes that are no such text, and want of memory.
+/// The other answers are `NotYet`, for bytes that are no such text, and want of memory. That the
+/// answers come exactly so is not proved yet; that the answer can be checked against the deck is.
 pub fn read_first(alloc: Global, deck: &Deck, bytes: &[u8]) -> Result<Answer, TreeWord>
     ensures checkable { IfOk result (IsCheckable deck.now) }
     ensures first { IfOk result IsFirstAnswer }
