@@ -81,12 +81,7 @@ fn read_rows(alloc: Global, cursor: &mut Cursor<'_>) -> Result<List<Row>, Fault>
 }
 
 /// The deck of these parts, where they keep every limit and no name comes twice.
-fn finish(
-    alloc: Global,
-    head: Head,
-    rows: List<Row>,
-    columns: List<Column>,
-) -> Result<Deck, Fault>
+fn finish(alloc: Global, head: Head, rows: List<Row>, columns: List<Column>) -> Result<Deck, Fault>
     ensures { IfOk result IsPlain }
 {
     let Head {
