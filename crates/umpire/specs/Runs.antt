@@ -19,7 +19,7 @@ use Rattle.umpire.specs.Lines.{verdict_text, refusal_text}
 
 abbrev pub verdict_status : Verdict → Status
 verdict_status verdict.Yes = status.Optimal
-verdict_status (verdict.No node reason) = status.No
+verdict_status (verdict.No place reason) = status.No
 
 abbrev pub refusal_status : Refusal → Status
 refusal_status (refusal.Words fault) = status.Words
