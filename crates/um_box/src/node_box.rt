@@ -80,7 +80,7 @@ impl<'d> NodeBox<'d> {
     }
 
     /// The first column whose low end is above its high end; `None` where the box is not void.
-    pub fn first_crossed(&self) -> Option<u32>
+    pub fn void(&self) -> Option<u32>
         ensures { MatchOption result (IsVoid self.now.deck self.now.limits → ⊥) (IsFirstCrossed self.now.deck self.now.limits) }
     {
         self.deck.known();

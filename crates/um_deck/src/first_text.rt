@@ -22,7 +22,8 @@ const MOST_COLUMNS: usize = 4096;
 
 /// The deck of which these bytes are the normal text, where it is a plain one.
 ///
-/// The other answers are `NotYet`, for bytes that are no such text, and want of memory.
+/// The other answers are `NotYet`, for bytes that are no such text, and want of memory. That the
+/// answers come exactly so is not proved yet; that the deck is well formed is.
 pub fn first(alloc: Global, bytes: &[u8]) -> Result<Deck, Fault>
     ensures { IfOk result IsPlain }
 {
@@ -80,12 +81,7 @@ fn read_rows(alloc: Global, cursor: &mut Cursor<'_>) -> Result<List<Row>, Fault>
 }
 
 /// The deck of these parts, where they keep every limit and no name comes twice.
-fn finish(
-    alloc: Global,
-    head: Head,
-    rows: List<Row>,
-    columns: List<Column>,
-) -> Result<Deck, Fault>
+fn finish(alloc: Global, head: Head, rows: List<Row>, columns: List<Column>) -> Result<Deck, Fault>
     ensures { IfOk result IsPlain }
 {
     let Head {

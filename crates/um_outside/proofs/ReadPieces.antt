@@ -1,5 +1,5 @@
 -- Pieces that a desk gives one after another.
-use Rattle.std.proofs.Common.{◌≡◌, ℕ, ◌<◌, List, [], ◌++◌, length, length-take, Option, Some, None, option_map, IfSome, IsSomeAnd, arith, ap, sym, ◌∙◌, append-nil, refl, subst}
+use Rattle.std.proofs.Common.{◌≡◌, ℕ, ◌<◌, ◌≤◌, List, [], ◌++◌, take, length, length-append, length-take, Option, Some, None, option_map, IfSome, IsSomeAnd, arith, ap, sym, ◌∙◌, append-nil, refl, subst}
 use Rattle.um_outside.specs.Scenes.{Scene, Files, Mode, Reading}
 use Rattle.um_outside.specs.Desks.{Opened, Gave, WentWell, IsFront}
 use Rattle.um_outside.proofs.Pieces.{set_then_added}
@@ -72,3 +72,14 @@ pub given_longer : (bytes : List ℕ) (most : ℕ) (g0 g : Option (List ℕ)) �
 given_longer bytes most g0 None e h = tt
 given_longer bytes most None (Some x) e h = absurd (cc)
 given_longer bytes most (Some y) (Some x) e h = let same : x ≡ bytes = cc in rw same h
+
+pub given_within : (bytes : List ℕ) (most : ℕ) (g0 g : Option (List ℕ)) → g ≡ option_map (λ _. bytes) g0 → length bytes ≤ most → IfSome g (λ given. length given ≤ most)
+given_within bytes most g0 None e h = tt
+given_within bytes most None (Some x) e h = absurd (cc)
+given_within bytes most (Some y) (Some x) e h = let same : x ≡ bytes = cc in rw same h
+
+-- at the end of the file no more was given, and closing it gives none
+pub given_at_end : (name bytes into : List ℕ) (n most : ℕ) (s t u v : Scene) → ReadSoFar name bytes s t → Gave (take n into) t u → n ≡ 0 → v.given ≡ u.given → length bytes ≤ most → IfSome v.given (λ given. length given ≤ most)
+given_at_end name bytes into n most s t u v a b none e h =
+    let c = read_more name bytes (take n into) s t u a b in
+    given_within (bytes ++ take n into) most s.given v.given (e ∙ c.given) (omega (arith, h, none, length-append bytes (take n into), length-take n into))

@@ -1,5 +1,5 @@
 -- What reading and writing a whole file does to a desk.
-use Rattle.std.specs.Prelude.{◌≡◌, ℕ, ◌<◌, List, length, Some, option_map, IfSome, IsSomeAnd}
+use Rattle.std.specs.Prelude.{◌⊎◌, ◌≤◌, ◌≡◌, ℕ, ◌<◌, List, length, Some, option_map, IfSome, IsSomeAnd}
 use Rattle.um_outside.specs.Scenes.{Scene, Idle}
 use Rattle.um_outside.specs.Desks.{WentWell, Faulted, ChangesOnly}
 
@@ -25,6 +25,10 @@ pub record ReadGivenUp (s t : Scene) : Type 0 where
   pub well : WentWell s t
   pub put : t.put ≡ s.put
   pub holds : t.holds ≡ s.holds
+
+-- No more bytes were given than asked for; where the file was not opened, those of the last one stand.
+abbrev pub GivenWithin : ℕ → Scene → Scene → Type 0
+GivenWithin most s t = (t.given ≡ s.given) ⊎ IfSome t.given (λ given. length given ≤ most)
 
 -- The outside failed while a file was read.
 pub record ReadFaulted (s t : Scene) : Type 0 where

@@ -11,3 +11,4 @@ pub mod WordForms
 pub mod TextParts
 pub mod LeafTexts
 pub mod WholeTexts
+pub mod Faults

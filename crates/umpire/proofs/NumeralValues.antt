@@ -6,11 +6,9 @@ use Rattle.std.proofs.lemmas.Fmt.{decimal_digit}
 use Rattle.std.proofs.lemmas.Bool.{cases_Bool, eqb-true, eqb-false, ne_eqb, lt-ltb, ltb-true, and_from, and_parts, and_left, and_right, or_right, or_from}
 use Rattle.um_num.specs.Numbers.{IsInRange, in_range}
 use Rattle.um_text.specs.Numerals.{is_digit, places, is_zero, is_positive, has_minus, signed, ranged}
+use Rattle.um_text.proofs.ReadBack.{read_back}
 use Rattle.umpire.specs.TreeReading.{number_value, number_or_none}
 use Rattle.umpire.proofs.Numerals.{decimal_digits, digits_text, digit_at, some_value}
-
-in_range_is : (z : ℤ) → IsInRange z → number_or_none (ranged z) ≡ Some z
-in_range_is z h = let e : in_range z ≡ true = lt-ltb (unsigned_abs z) (2 ^ 127) h in rw e refl
 
 in_range_from : (z y : ℤ) → number_or_none (ranged z) ≡ Some y → (z ≡ y) × IsInRange z
 in_range_from z y e =
@@ -22,27 +20,9 @@ in_range_from z y e =
     no_value : None ≡ Some y → ⊥
     no_value f = cc
 
--- the whole value of the text of a number
-zero_or_positive : (n : ℕ) → n < 10 ^ 64 → (is_zero (decimal n) || is_positive (decimal n)) ≡ true
-zero_or_positive zero h = rw (decimal_digit 0 (omega arith)) refl
-zero_or_positive (suc n) h =
-    let d = decimal_digits (suc n) h in
-    or_right _ _ (and_from _ _ (and_from _ _ (lt-ltb 0 _ d.some) (ap not (ne_eqb _ 48 (d.first (omega arith))))) d.digits)
-
 pub text_value : (z : ℤ) → IsInRange z → number_value (signed_decimal z) ≡ Some z
 unfolding number_value
-text_value (pos n) h =
-    let d = decimal_digits n (omega (arith, h)) in
-    rw (zero_or_positive n (omega (arith, h)), d.value) (in_range_is (pos n) h)
-text_value (negsuc n) h =
-    let d = decimal_digits (suc n) (omega (arith, h)) in
-    let long : nat_eq (length (45 ∷ decimal (suc n))) 1 ≡ false = ne_eqb _ 1 (omega (arith, d.some)) in
-    let up : is_positive (decimal (suc n)) ≡ true = and_from _ _ (and_from _ _ (lt-ltb 0 _ d.some) (ap not (ne_eqb _ 48 (d.first (omega arith))))) d.digits in
-    let none : (is_zero (45 ∷ decimal (suc n)) || is_positive (45 ∷ decimal (suc n))) ≡ false =
-    or_from (is_zero (45 ∷ decimal (suc n))) (is_positive (45 ∷ decimal (suc n)))
-    (and_left (nat_eq (length (45 ∷ decimal (suc n))) 1) (nat_eq 45 48) long)
-    (and_right (nat_lt 0 (length (45 ∷ decimal (suc n))) && not (nat_eq 45 48)) (list_all is_digit (45 ∷ decimal (suc n))) refl) in
-    rw (none, up, d.value) (in_range_is (negsuc n) h)
+text_value z h = ap number_or_none (read_back z h)
 
 -- a word that has a value is its text
 zero_word : (word : List ℕ) → is_zero word ≡ true → word ≡ 48 ∷ []

@@ -46,7 +46,8 @@ impl<'d> Checker<'d> {
     }
 
     /// Yes exactly where the answer is accepted, and else the first reason against it. For now of
-    /// optimal answers whose tree is one bounded leaf.
+    /// optimal answers that have a point, its objective and a bound, no cause and no ray, and whose
+    /// tree is one bounded leaf.
     pub fn verdict(&mut self, answer: &Answer) -> Verdict
         requires checkable { IsCheckable self.old answer.now }
         requires first { IsFirstAnswer answer.now }

@@ -5,8 +5,7 @@ ghost use Rattle.um_deck.specs.Decks.{IsPlain};
 ghost use Rattle.um_model.specs.Checkable.{IsCheckable};
 ghost use Rattle.umpire.specs.FirstAnswers.{IsFirstAnswer};
 ghost use Rattle.um_outside.specs.Scenes.{Idle};
-ghost use Rattle.umpire.specs.Runs.{MakesNoFile};
-ghost use Rattle.umpire.specs.Readings.{WentOn, WasStopped, deck_stop, tree_stop};
+ghost use Rattle.umpire.specs.Readings.{WasRead, FileStopped, HasReadBoth, WasStopped, deck_refusal, tree_refusal, deck_stop, tree_stop};
 
 use crate::checker::Checker;
 use crate::outcome::{ReadFault, Refusal, TreeFault, TreeWord};
@@ -43,8 +42,8 @@ impl From<Memory> for Stop {
 pub fn judge<D: Desk>(alloc: Global, desk: &mut D, files: &CheckFiles<'_>) -> Result<Verdict, Stop>
     requires idle { (D.scene desk.old).mode ≡ Idle }
     requires going { (D.scene desk.old).stopped ≡ false }
-    ensures ok { OnOk result (MakesNoFile (D.scene desk.old) (D.scene desk.new)) }
-    ensures err { IfErr result (λ stop. WasStopped stop (D.scene desk.old) (D.scene desk.new)) }
+    ensures ok { OnOk result (HasReadBoth (files.now.deck.now, files.now.tree.now) (D.scene desk.old) (D.scene desk.new)) }
+    ensures err { IfErr result (λ stop. WasStopped (files.now.deck.now, files.now.tree.now) stop (D.scene desk.old) (D.scene desk.new)) }
 {
     let deck = read_deck(alloc, desk, files.deck)?;
     match read_tree(alloc, desk, &deck, files.tree) {
@@ -67,9 +66,9 @@ fn check(alloc: Global, deck: &Deck, answer: &Answer) -> Result<Verdict, Stop>
 fn read_deck<D: Desk>(alloc: Global, desk: &mut D, name: &str) -> Result<Deck, Stop>
     requires idle { (D.scene desk.old).mode ≡ Idle }
     requires going { (D.scene desk.old).stopped ≡ false }
-    ensures ok { OnOk result (WentOn (D.scene desk.old) (D.scene desk.new)) }
+    ensures ok { OnOk result (WasRead name.now (D.scene desk.old) (D.scene desk.new)) }
     ensures plain { IfOk result IsPlain }
-    ensures err { IfErr result (λ stop. WasStopped stop (D.scene desk.old) (D.scene desk.new)) }
+    ensures err { IfErr result (λ stop. FileStopped deck_refusal name.now stop (D.scene desk.old) (D.scene desk.new)) }
 {
     let bytes = match read_file(alloc, desk, name, MOST_BYTES) {
         Ok(bytes) => bytes,
@@ -86,10 +85,10 @@ fn read_deck<D: Desk>(alloc: Global, desk: &mut D, name: &str) -> Result<Deck, S
 fn read_tree<D: Desk>(alloc: Global, desk: &mut D, deck: &Deck, name: &str) -> Result<Answer, Stop>
     requires idle { (D.scene desk.old).mode ≡ Idle }
     requires going { (D.scene desk.old).stopped ≡ false }
-    ensures ok { OnOk result (WentOn (D.scene desk.old) (D.scene desk.new)) }
+    ensures ok { OnOk result (WasRead name.now (D.scene desk.old) (D.scene desk.new)) }
     ensures checkable { IfOk result (IsCheckable deck.now) }
     ensures first { IfOk result IsFirstAnswer }
-    ensures err { IfErr result (λ stop. WasStopped stop (D.scene desk.old) (D.scene desk.new)) }
+    ensures err { IfErr result (λ stop. FileStopped tree_refusal name.now stop (D.scene desk.old) (D.scene desk.new)) }
 {
     let bytes = match read_file(alloc, desk, name, MOST_BYTES) {
         Ok(bytes) => bytes,

@@ -26,12 +26,13 @@ struct Told {
     held: List<u8>,
 }
 
-fn words_of(alloc: Global, words: &[&str]) -> Result<Vec<String>, Fail> {
-    let mut all = Vec::new(alloc);
-    for word in words {
-        all.push(String::from_str(alloc, word)?)?;
+/// The words of a line, one blank apart.
+fn words_of(alloc: Global, line: &str) -> Result<Vec<String>, Fail> {
+    let mut words = Vec::new(alloc);
+    for word in line.split(' ') {
+        words.push(String::from_str(alloc, word)?)?;
     }
-    Ok(all)
+    Ok(words)
 }
 
 /// A desk with the two files.
@@ -55,8 +56,8 @@ fn sink_of(alloc: Global, piece: usize) -> Result<MemorySink, Memory>
     Ok(sink)
 }
 
-fn call(alloc: Global, words: &[&str], deck: &[u8], tree: &[u8]) -> Result<Told, Fail> {
-    let words = words_of(alloc, words)?;
+fn call(alloc: Global, line: &str, deck: &[u8], tree: &[u8]) -> Result<Told, Fail> {
+    let words = words_of(alloc, line)?;
     let mut desk = desk_of(alloc, deck, tree)?;
     let mut sink = sink_of(alloc, 16)?;
     let outcome = run(alloc, words.as_slice(), &mut desk, &mut sink);
@@ -213,12 +214,7 @@ fn verdicts(rt: HostRuntime) -> Result<(), Fail> {
         ),
     ] {
         let tree = tree_of(rt.alloc(), tolerance, objective, bound, point, leaf)?;
-        let told = call(
-            rt.alloc(),
-            ["check", "deck", "tree"].as_slice(),
-            DECK,
-            tree.as_bytes(),
-        )?;
+        let told = call(rt.alloc(), "check deck tree", DECK, tree.as_bytes())?;
         says(&rt, &told, status, text.as_bytes());
     }
     Ok(())
@@ -226,10 +222,10 @@ fn verdicts(rt: HostRuntime) -> Result<(), Fail> {
 
 #[test]
 fn refusals(rt: HostRuntime) -> Result<(), Fail> {
-    let check = ["check", "deck", "tree"];
+    let check = "check deck tree";
     // A file that is cut anywhere, or too long, is refused by its name.
     for most in 0..DECK.len() {
-        let told = call(rt.alloc(), check.as_slice(), &DECK[..most], TREE)?;
+        let told = call(rt.alloc(), check, &DECK[..most], TREE)?;
         says(
             &rt,
             &told,
@@ -238,7 +234,7 @@ fn refusals(rt: HostRuntime) -> Result<(), Fail> {
         );
     }
     for most in 0..TREE.len() {
-        let told = call(rt.alloc(), check.as_slice(), DECK, &TREE[..most])?;
+        let told = call(rt.alloc(), check, DECK, &TREE[..most])?;
         says(
             &rt,
             &told,
@@ -247,14 +243,14 @@ fn refusals(rt: HostRuntime) -> Result<(), Fail> {
         );
     }
     let long = vec![in rt.alloc(); b' '; 65_537]?;
-    let first = call(rt.alloc(), check.as_slice(), long.as_slice(), TREE)?;
+    let first = call(rt.alloc(), check, long.as_slice(), TREE)?;
     says(
         &rt,
         &first,
         Status::Refused,
         b"deck refused: NotYet at line 0\n",
     );
-    let second = call(rt.alloc(), check.as_slice(), DECK, long.as_slice())?;
+    let second = call(rt.alloc(), check, DECK, long.as_slice())?;
     says(
         &rt,
         &second,
@@ -262,16 +258,16 @@ fn refusals(rt: HostRuntime) -> Result<(), Fail> {
         b"tree refused: NotYet at line 0\n",
     );
 
-    for words in [
-        [].as_slice(),
-        ["check"].as_slice(),
-        ["check", "deck"].as_slice(),
-        ["check", "deck", "tree", "more"].as_slice(),
-        ["solve", "deck", "tree"].as_slice(),
-        ["check", "-deck", "tree"].as_slice(),
-        ["check", "deck", ""].as_slice(),
+    for line in [
+        "",
+        "check",
+        "check deck",
+        "check deck tree more",
+        "solve deck tree",
+        "check -deck tree",
+        "check deck ",
     ] {
-        let told = call(rt.alloc(), words, DECK, TREE)?;
+        let told = call(rt.alloc(), line, DECK, TREE)?;
         says(&rt, &told, Status::Words, b"words refused: Line\n");
         assert_eq!(&rt; told.outcome.refusal, Some(Refusal::Words(WordFault::Line)));
     }
@@ -281,13 +277,13 @@ fn refusals(rt: HostRuntime) -> Result<(), Fail> {
 #[test]
 fn faults(rt: HostRuntime) -> Result<(), Fail> {
     // A missing deck, and a missing tree.
-    for words in [["check", "none", "tree"], ["check", "deck", "none"]] {
-        let told = call(rt.alloc(), words.as_slice(), DECK, TREE)?;
+    for line in ["check none tree", "check deck none"] {
+        let told = call(rt.alloc(), line, DECK, TREE)?;
         says(&rt, &told, Status::Fault, b"");
     }
 
     // Two files of three pieces each: open, four reads and a close, twice.
-    let words = words_of(rt.alloc(), ["check", "deck", "tree"].as_slice())?;
+    let words = words_of(rt.alloc(), "check deck tree")?;
     for call in 1..14u64 {
         let mut desk = desk_of(rt.alloc(), DECK, TREE)?;
         desk.fail_at(call)?;

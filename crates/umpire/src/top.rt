@@ -1,9 +1,12 @@
 //! The top call.
 
-ghost use Rattle.std.specs.Prelude.{◌≡◌, false, map, is_some, string_bytes, IfSome, None};
+ghost use Rattle.std.specs.Prelude.{◌≡◌, ◌≢◌, false, map, is_some, string_bytes, IfSome, None};
 ghost use Rattle.um_outside.specs.Scenes.{Idle};
+ghost use Rattle.um_outside.specs.Desks.{WentWell};
+ghost use Rattle.um_outside.specs.Sinks.{TookFront};
+ghost use Rattle.umpire.specs.Lines.{verdict_text, refusal_text};
 ghost use Rattle.umpire.specs.Words.{check_files};
-ghost use Rattle.umpire.specs.Runs.{Judged, WasRefused, HasFaulted, OutputFailed, HasFields, WordsJudged, MakesNoFile, IsNoWantOfMemory, EndsAs, refusal_status, verdict_status};
+ghost use Rattle.umpire.specs.Runs.{Judged, WasRefused, HasFaulted, HasFields, WordsJudged, MakesNoFile, WasSaid, EndsAs, refusal_status, verdict_status};
 
 use crate::lines::{refusal_line, verdict_line};
 use crate::outcome::{Outcome, Refusal, Status, WordFault};
@@ -19,12 +22,13 @@ pub fn run<D: Desk, O: Sink>(alloc: Global, words: &[String], desk: &mut D, out:
     requires idle { (D.scene desk.old).mode ≡ Idle }
     requires going { (D.scene desk.old).stopped ≡ false }
     requires out_going { (O.told out.old).stopped ≡ false }
-    ensures verdict { IfSome result.verdict (λ v. Judged v result (O.told out.old) (O.told out.new)) }
-    ensures refusal { IfSome result.refusal (λ r. WasRefused r result (O.told out.old) (O.told out.new)) }
-    ensures fault { result.status ≡ Status.Fault → HasFaulted (D.scene desk.old) (D.scene desk.new) (O.told out.old) (O.told out.new) }
+    ensures verdict { IfSome result.verdict (λ v. Judged (check_files (map string_bytes words.now)) v result (D.scene desk.old) (D.scene desk.new) (O.told out.old) (O.told out.new)) }
+    ensures refusal { IfSome result.refusal (λ r. WasRefused (check_files (map string_bytes words.now)) r result (D.scene desk.old) (D.scene desk.new) (O.told out.old) (O.told out.new)) }
+    ensures fault { result.status ≡ Status.Fault → HasFaulted (is_some (check_files (map string_bytes words.now))) (D.scene desk.old) (D.scene desk.new) (O.told out.old) (O.told out.new) }
+    ensures going { result.status ≢ Status.Fault → WentWell (D.scene desk.old) (D.scene desk.new) }
     ensures memory { result.status ≡ Status.Memory → O.told out.new ≡ O.told out.old }
     ensures files { MakesNoFile (D.scene desk.old) (D.scene desk.new) }
-    ensures words { WordsJudged (is_some (check_files (map string_bytes words.now))) result }
+    ensures words { WordsJudged (is_some (check_files (map string_bytes words.now))) result (D.scene desk.old) (D.scene desk.new) }
     ensures fields { HasFields result }
 {
     let Some(files) = check_files(words) else {
@@ -53,10 +57,9 @@ fn ended(status: Status) -> Outcome
 /// Writes the line of a refusal.
 fn refuse<O: Sink>(alloc: Global, out: &mut O, refusal: Refusal) -> Outcome
     requires going { (O.told out.old).stopped ≡ false }
-    requires cause { IsNoWantOfMemory refusal }
     ensures verdict { result.verdict ≡ None }
-    ensures refusal { IfSome result.refusal (λ r. WasRefused r result (O.told out.old) (O.told out.new)) }
-    ensures fault { result.status ≡ Status.Fault → OutputFailed (O.told out.old) (O.told out.new) }
+    ensures refusal { IfSome result.refusal (λ r. WasSaid r refusal (refusal_text refusal) result (refusal_status refusal) (O.told out.old) (O.told out.new)) }
+    ensures fault { result.status ≡ Status.Fault → TookFront (refusal_text refusal) (O.told out.old) (O.told out.new) }
     ensures memory { result.status ≡ Status.Memory → O.told out.new ≡ O.told out.old }
     ensures ends { EndsAs (refusal_status refusal) result }
     ensures fields { HasFields result }
@@ -79,9 +82,9 @@ fn refuse<O: Sink>(alloc: Global, out: &mut O, refusal: Refusal) -> Outcome
 /// Writes the line of a verdict.
 fn tell<O: Sink>(alloc: Global, out: &mut O, verdict: Verdict) -> Outcome
     requires going { (O.told out.old).stopped ≡ false }
-    ensures verdict { IfSome result.verdict (λ v. Judged v result (O.told out.old) (O.told out.new)) }
+    ensures verdict { IfSome result.verdict (λ v. WasSaid v verdict (verdict_text verdict) result (verdict_status verdict) (O.told out.old) (O.told out.new)) }
     ensures refusal { result.refusal ≡ None }
-    ensures fault { result.status ≡ Status.Fault → OutputFailed (O.told out.old) (O.told out.new) }
+    ensures fault { result.status ≡ Status.Fault → TookFront (verdict_text verdict) (O.told out.old) (O.told out.new) }
     ensures memory { result.status ≡ Status.Memory → O.told out.new ≡ O.told out.old }
     ensures ends { EndsAs (verdict_status verdict) result }
     ensures fields { HasFields result }

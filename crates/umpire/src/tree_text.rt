@@ -44,7 +44,8 @@ fn read_number(cursor: &mut Cursor<'_>) -> Result<i128, TreeWord>
 
 /// The answer of which these bytes are the text for this deck, where its tree is one bounded leaf.
 ///
-/// The other answers are `NotYet`, for bytes that are no such text, and want of memory.
+/// The other answers are `NotYet`, for bytes that are no such text, and want of memory. The deck's
+/// name must be one word, of bytes but blank, tab and LF; no name is written `-`.
 pub fn read_first(alloc: Global, deck: &Deck, bytes: &[u8]) -> Result<Answer, TreeWord>
     ensures checkable { IfOk result (IsCheckable deck.now) }
     ensures first { IfOk result IsFirstAnswer }

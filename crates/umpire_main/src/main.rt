@@ -5,9 +5,8 @@
 //! refuses them for another cause it is 7.
 #![tactic(auto)]
 
-use std::env;
-use std::io;
 use std::process::ExitCode;
+use std::{env, io};
 use um_outside::{FileDesk, StdSink};
 use umpire::{Status, run};
 
