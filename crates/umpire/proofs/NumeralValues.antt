@@ -1,14 +1,14 @@
 -- The value of a word, and the words of a value.
-use Rattle.std.proofs.Common.{◌≡◌, ◌≢◌, ℕ, zero, suc, ◌^◌, ◌<◌, Bool, true, false, not, ◌&&◌, ◌||◌, nat_lt, nat_eq, List, [], ◌∷◌, length, drop, decimal, ℤ, pos, negsuc, unsigned_abs, Some, None, refl, sym, ap, ◌∙◌, inl, inr, arith}
+use Rattle.std.proofs.Common.{◌≡◌, ◌≢◌, ℕ, zero, suc, ◌^◌, ◌<◌, Bool, true, false, not, ◌&&◌, ◌||◌, nat_lt, nat_eq, List, [], ◌∷◌, length, drop, decimal, ℤ, pos, unsigned_abs, Some, None, refl, sym, ap, ◌∙◌, inl, inr, arith}
 use Rattle.std.specs.Fmt.{signed_decimal}
 use Rattle.std.specs.List.{list_all}
 use Rattle.std.proofs.lemmas.Fmt.{decimal_digit}
-use Rattle.std.proofs.lemmas.Bool.{cases_Bool, eqb-true, eqb-false, ne_eqb, lt-ltb, ltb-true, and_from, and_parts, and_left, and_right, or_right, or_from}
+use Rattle.std.proofs.lemmas.Bool.{cases_Bool, eqb-true, eqb-false, ltb-true, and_parts}
 use Rattle.um_num.specs.Numbers.{IsInRange, in_range}
 use Rattle.um_text.specs.Numerals.{is_digit, places, is_zero, is_positive, has_minus, signed, ranged}
 use Rattle.um_text.proofs.ReadBack.{read_back}
 use Rattle.umpire.specs.TreeReading.{number_value, number_or_none}
-use Rattle.umpire.proofs.Numerals.{decimal_digits, digits_text, digit_at, some_value}
+use Rattle.umpire.proofs.Numerals.{digits_text, digit_at, some_value}
 
 in_range_from : (z y : ℤ) → number_or_none (ranged z) ≡ Some y → (z ≡ y) × IsInRange z
 in_range_from z y e =

@@ -53,14 +53,6 @@ cut_at (suc n) (x ∷ xs) = ap (λ (l : List ℕ). x ∷ l) (cut_at n xs)
 pub rest_is : (bytes ts : List ℕ) → bytes ≡ take_while is_word_byte bytes ++ ts → ts ≡ rest_of bytes
 rest_is bytes ts e = same_behind (take_while is_word_byte bytes) ts (rest_of bytes) (sym e ∙ sym (cut_at (prefix_len is_word_byte bytes) bytes))
 
-pub refused_then : {A B : Type 0} (word : TreeWord) (step : Option A) (next : A → Option B) → IsRefused word step → IsRefused word (then_step step next)
-refused_then NotYet step next h = rw h refl
-refused_then Memory step next h = tt
-
-pub refused_rest : {A : Type 0} (word : TreeWord) (rest : List ℕ) (step : Option A) → IsRefused word step → IsRefused word (with_rest rest step)
-refused_rest NotYet rest step h = rw h refl
-refused_rest Memory rest step h = tt
-
 -- ---- calls that fail
 
 pub steps_err : (r : Result (Unit {0}) TreeWord) (word : TreeWord) (step : Option (List ℕ)) (left : List ℕ) → IsErrAnd r (λ w. w ≡ word) → IsRefused word step → Steps r step left
