@@ -1,2 +1,4 @@
 pub mod DistinctNames
 pub mod FirstDeckLemmas
+pub mod WordsRead
+pub mod NumeralsRead

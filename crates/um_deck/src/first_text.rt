@@ -1,12 +1,18 @@
 //! The reader of plain decks: texts in normal form of decks that minimise, with whole numbers, rows
 //! with a high side alone, and continuous columns with two finite ends.
 
-ghost use Rattle.std.specs.Prelude.{◌≤◌, ◌<◌, length, IfOk};
-ghost use Rattle.um_deck.specs.Decks.{IsPlain};
+ghost use Rattle.std.specs.Prelude.{◌≡◌, ◌++◌, All, IfOk};
+ghost use Rattle.std.specs.List.{flat_map};
+ghost use Rattle.um_model.specs.declared.deck.Row.{Row};
+ghost use Rattle.um_deck.specs.Decks.{IsPlain, first_deck};
+ghost use Rattle.um_deck.specs.NormalText.{head_lines, row_line, normal_text};
+ghost use Rattle.um_deck.specs.PlainDecks.{IsPlainName, IsRowName, IsFirstDeck};
 
 mod columns;
+mod pieces;
 mod sides;
 
+use crate::first_text::pieces::{name_before, row_name_before};
 use crate::shape::{
     are_columns_distinct, are_rows_distinct, columns_hold, is_new_row_name, rows_hold,
 };
@@ -24,7 +30,8 @@ const MOST_COLUMNS: usize = 4096;
 ///
 /// The other answers are `NotYet`, for bytes that are no such text, and want of memory.
 pub fn first(alloc: Global, bytes: &[u8]) -> Result<Deck, Fault>
-    ensures { IfOk result IsPlain }
+    ensures plain { IfOk result IsPlain }
+    ensures sound { IfOk result (λ deck. IsFirstDeck deck × (bytes.now ≡ normal_text deck)) }
 {
     let mut cursor = Cursor::new(bytes);
     let head = read_head(alloc, &mut cursor)?;
@@ -35,7 +42,7 @@ pub fn first(alloc: Global, bytes: &[u8]) -> Result<Deck, Fault>
         head.objective_name.as_bytes(),
         rows.as_slice(),
     )?;
-    sides::read_sides(&mut cursor, &mut rows)?;
+    sides::read_sides(alloc, &mut cursor, &mut rows)?;
     sides::read_bounds(&mut cursor, &mut columns)?;
     cursor.expect(b"ENDATA\n")?;
     if !cursor.is_at_end() {
@@ -51,24 +58,28 @@ struct Head {
     objective_name: Name,
 }
 
-fn read_head(alloc: Global, cursor: &mut Cursor<'_>) -> Result<Head, Fault> {
+fn read_head(alloc: Global, cursor: &mut Cursor<'_>) -> Result<Head, Fault>
+    ensures name { IfOk result (λ head. IsPlainName head.name) }
+    ensures objective { IfOk result (λ head. IsRowName head.objective_name) }
+    ensures sound { IfOk result (λ head. cursor.old ≡ head_lines head.name head.objective_name ++ cursor.new) }
+{
     cursor.expect(b"NAME ")?;
-    let name = Name::from_bytes(alloc, cursor.plain_word()?)?;
-    cursor.expect(b"\nROWS\n N ")?;
-    let objective_name = Name::from_bytes(alloc, row_name(cursor)?)?;
-    cursor.expect(b"\n")?;
+    let name = name_before(cursor, b"\nROWS\n N ")?;
+    let objective_name = row_name_before(cursor, b"\n")?;
     Ok(Head {
-        name,
-        objective_name,
+        name: Name::from_bytes(alloc, name)?,
+        objective_name: Name::from_bytes(alloc, objective_name)?,
     })
 }
 
 /// The rows by their names, each with the high side 0 until the sides are read.
-fn read_rows(alloc: Global, cursor: &mut Cursor<'_>) -> Result<List<Row>, Fault> {
+fn read_rows(alloc: Global, cursor: &mut Cursor<'_>) -> Result<List<Row>, Fault>
+    ensures names { IfOk result (λ rows. All (λ (r : Row). IsRowName r.name) rows.items) }
+    ensures sound { IfOk result (λ rows. cursor.old ≡ flat_map row_line rows.items ++ cursor.new) }
+{
     let mut rows = List::new(alloc);
     'lines: while cursor.skip(b" L ") {
-        let name = Name::from_bytes(alloc, row_name(cursor)?)?;
-        cursor.expect(b"\n")?;
+        let name = Name::from_bytes(alloc, row_name_before(cursor, b"\n")?)?;
         rows.push(Row {
             name,
             scale: 0,
@@ -86,7 +97,7 @@ fn finish(
     rows: List<Row>,
     columns: List<Column>,
 ) -> Result<Deck, Fault>
-    ensures { IfOk result IsPlain }
+    ensures { IfOk result (λ deck. deck ≡ first_deck head.name head.objective_name rows.items columns.items) }
 {
     let Head {
         name,
@@ -105,23 +116,4 @@ fn finish(
         return Err(Fault::NotYet);
     }
     Ok(Deck::of_first(alloc, name, objective_name, rows, columns))
-}
-
-/// A word that may name a row: in a deck's text `'MARKER'` stands for something else.
-fn row_name<'b>(cursor: &mut Cursor<'b>) -> Result<&'b [u8], Fault>
-    ensures { length cursor.new ≤ length cursor.old }
-{
-    let name = cursor.plain_word()?;
-    if name == b"'MARKER'".as_slice() {
-        return Err(Fault::NotYet);
-    }
-    Ok(name)
-}
-
-/// The whole number that comes next, which must fit.
-fn number(cursor: &mut Cursor<'_>) -> Result<i64, Fault>
-    ensures { length cursor.new ≤ length cursor.old }
-{
-    let number = cursor.whole()?;
-    i64::try_from(number).map_err(|_| Fault::NotYet)
 }

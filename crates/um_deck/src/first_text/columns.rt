@@ -1,20 +1,18 @@
 //! The section COLUMNS of a plain deck.
 
-ghost use Rattle.std.specs.Prelude.{◌≤◌, ◌<◌, length, IsTrue, IfSome};
+ghost use Rattle.std.specs.Prelude.{◌≡◌, ◌<◌, ℕ, List, ◌∷◌, [], ◌++◌, length, map, All, slice_index_or, IfOk, IfSome};
+ghost use Rattle.um_model.specs.Values.{plain_column};
+ghost use Rattle.um_model.specs.declared.deck.Column.{Column};
+ghost use Rattle.um_model.specs.declared.deck.Entry.{Entry};
+ghost use Rattle.um_deck.specs.NormalText.{columns_section, column_lines, part_lines, entry_lines, row_names, words_line, coefficient_line};
+ghost use Rattle.um_deck.specs.PlainDecks.{IsPlainName};
+ghost use Rattle.std.specs.Fmt.{signed_decimal};
 
-use crate::first_text::number;
+use crate::first_text::pieces::{last_number, line_start, name_before};
 use crate::{Column, Entry, Fault, Kind, Row};
 use std::alloc::Global;
 use um_num::{List, Name};
 use um_text::Cursor;
-
-/// A line of the section: a column, a row or the objective, and the number that the column has there.
-#[derive(Drop)]
-struct Line<'b> {
-    column: &'b [u8],
-    row: &'b [u8],
-    value: i64,
-}
 
 /// The columns, each with the ends 0 and 0 until the bounds are read.
 pub fn read_columns(
@@ -22,112 +20,118 @@ pub fn read_columns(
     cursor: &mut Cursor<'_>,
     objective: &[u8],
     rows: &[Row],
-) -> Result<List<Column>, Fault> {
+) -> Result<List<Column>, Fault>
+    ensures names { IfOk result (λ columns. All (λ (c : Column). IsPlainName c.name) columns.items) }
+    ensures sound { IfOk result (λ columns. cursor.old ≡ columns_section objective.now (row_names rows.now) (map plain_column columns.items) ++ cursor.new) }
+{
     cursor.expect(b"COLUMNS\n")?;
     let mut columns = List::new(alloc);
-    'lines: while cursor.skip(b" ") {
-        let line = read_line(cursor)?;
-        take_line(alloc, &mut columns, objective, rows, &line)?;
+    'columns: while cursor.skip(b" ") {
+        columns.push(read_column(alloc, cursor, objective, rows)?)?;
     }
     Ok(columns)
 }
 
-/// What is left of a line behind its first blank.
-fn read_line<'b>(cursor: &mut Cursor<'b>) -> Result<Line<'b>, Fault>
-    ensures { length cursor.new ≤ length cursor.old }
-{
-    let column = cursor.plain_word()?;
-    cursor.expect(b" ")?;
-    let row = cursor.plain_word()?;
-    cursor.expect(b" ")?;
-    let value = number(cursor)?;
-    cursor.expect(b"\n")?;
-    Ok(Line { column, row, value })
-}
-
-/// Adds what a line says to the last column, or begins the next one with it.
-fn take_line(
+/// A column, behind the blank that begins its first line.
+fn read_column(
     alloc: Global,
-    columns: &mut List<Column>,
+    cursor: &mut Cursor<'_>,
     objective: &[u8],
     rows: &[Row],
-    line: &Line<'_>,
-) -> Result<(), Fault> {
-    let count = columns.len();
-    if goes_on(columns.as_slice(), line.column) {
-        let entry = entry_of(rows, line)?;
-        add_entry(columns.at_mut(count - 1), entry)
-    } else {
-        columns.push(begin(alloc, objective, rows, line)?)?;
-        Ok(())
-    }
-}
-
-/// Whether a line of this column speaks of the last column.
-fn goes_on(columns: &[Column], name: &[u8]) -> bool
-    ensures { IsTrue result → 1 ≤ length columns.now }
+) -> Result<Column, Fault>
+    ensures name { IfOk result (λ column. IsPlainName column.name) }
+    ensures sound { IfOk result (λ column. 32 ∷ cursor.old ≡ column_lines objective.now (row_names rows.now) (plain_column column) ++ cursor.new) }
 {
-    match columns.last() {
-        Some(column) => column.name.as_bytes() == name,
-        None => false,
-    }
-}
-
-/// A column with what its first line says: its cost, or its first entry.
-fn begin(alloc: Global, objective: &[u8], rows: &[Row], line: &Line<'_>) -> Result<Column, Fault> {
-    let name = Name::from_bytes(alloc, line.column)?;
-    let mut entries = List::new(alloc);
-    let mut cost = 0;
-    if line.row == objective {
-        cost = line.value;
+    let name = name_before(cursor, b" ")?;
+    let begun = read_begun(alloc, cursor, objective, rows)?;
+    let parts = if begun.cost == 0 && begun.entries.is_empty() {
+        begun
     } else {
-        entries.push(entry_of(rows, line)?)?;
-    }
+        read_entries(alloc, cursor, rows, name, begun)?
+    };
     Ok(Column {
-        name,
+        name: Name::from_bytes(alloc, name)?,
         kind: Kind::Continuous,
         low: Some(0),
         high: Some(0),
-        cost,
-        entries,
+        cost: parts.cost,
+        entries: parts.entries,
     })
 }
 
-/// Adds an entry to a column: behind its last one, and not to a column that has said that it has none.
-fn add_entry(column: &mut Column, entry: Entry) -> Result<(), Fault> {
-    match column.entries.as_slice().last() {
-        Some(last) => {
-            if entry.row <= last.row {
-                return Err(Fault::NotYet);
-            }
-        }
-        None => {
-            if column.cost == 0 {
-                return Err(Fault::NotYet);
-            }
-        }
-    }
-    column.entries.push(entry)?;
-    Ok(())
+/// What the lines of a column say.
+#[derive(Drop)]
+struct Parts {
+    cost: i64,
+    entries: List<Entry>,
 }
 
-/// The entry that a line gives; its row must be there, and its number not 0.
-fn entry_of(rows: &[Row], line: &Line<'_>) -> Result<Entry, Fault> {
-    let Some(row) = place_of(rows, line.row) else {
+/// What a column's first line says, behind its name: its cost, or its first entry.
+fn read_begun(
+    alloc: Global,
+    cursor: &mut Cursor<'_>,
+    objective: &[u8],
+    rows: &[Row],
+) -> Result<Parts, Fault>
+    ensures sound { IfOk result (λ parts. (column : List ℕ) → 32 ∷ (column ++ 32 ∷ cursor.old) ≡ part_lines objective.now (row_names rows.now) column parts.cost parts.entries.items ++ cursor.new) }
+{
+    let row = name_before(cursor, b" ")?;
+    let value = last_number(cursor)?;
+    let mut entries = List::new(alloc);
+    if row == objective {
+        return Ok(Parts {
+            cost: value,
+            entries,
+        });
+    }
+    entries.push(entry_of(rows, row, value)?)?;
+    Ok(Parts { cost: 0, entries })
+}
+
+/// Adds the entries of the lines that begin with this column's name.
+fn read_entries(
+    alloc: Global,
+    cursor: &mut Cursor<'_>,
+    rows: &[Row],
+    column: &[u8],
+    begun: Parts,
+) -> Result<Parts, Fault>
+    ensures cost { IfOk result (λ parts. parts.cost ≡ begun.cost) }
+    ensures sound { IfOk result (λ parts. (taken : List Entry) × (parts.entries.items ≡ begun.entries.items ++ taken) × (cursor.old ≡ entry_lines (row_names rows.now) column.now taken ++ cursor.new)) }
+{
+    let start = line_start(alloc, b" ", column)?;
+    let Parts { cost, mut entries } = begun;
+    'entries: while cursor.skip(start.as_slice()) {
+        entries.push(read_entry(cursor, rows)?)?;
+    }
+    Ok(Parts { cost, entries })
+}
+
+/// The entry of a line, behind its column's name.
+fn read_entry(cursor: &mut Cursor<'_>, rows: &[Row]) -> Result<Entry, Fault>
+    ensures sound { IfOk result (λ entry. cursor.old ≡ slice_index_or (row_names rows.now) entry.row [] ++ (32 ∷ (signed_decimal entry.value ++ 10 ∷ cursor.new))) }
+{
+    let row = name_before(cursor, b" ")?;
+    let value = last_number(cursor)?;
+    entry_of(rows, row, value)
+}
+
+/// The entry in the row of this name, which must be there.
+fn entry_of(rows: &[Row], name: &[u8], value: i64) -> Result<Entry, Fault>
+    ensures sound { IfOk result (λ entry. (slice_index_or (row_names rows.now) entry.row [] ≡ name.now) × (entry.value ≡ value)) }
+{
+    let Some(place) = place_of(rows, name) else {
         return Err(Fault::NotYet);
     };
-    match u32::try_from(row) {
-        Ok(row) if line.value != 0 => Ok(Entry {
-            row,
-            value: line.value,
-        }),
+    match u32::try_from(place) {
+        Ok(row) if value != 0 => Ok(Entry { row, value }),
         _ => Err(Fault::NotYet),
     }
 }
 
 /// Which row has this name.
-pub fn place_of(rows: &[Row], name: &[u8]) -> Option<usize>
-    ensures { IfSome result (λ place. place < length rows.now) }
+fn place_of(rows: &[Row], name: &[u8]) -> Option<usize>
+    ensures found { IfSome result (λ place. (place < length rows.now) × (slice_index_or (row_names rows.now) place [] ≡ name.now)) }
 {
     for (place, row) in rows.iter().enumerate() {
         if row.name.as_bytes() == name {
