@@ -4,7 +4,7 @@ use Rattle.std.specs.Prelude.{All, AllPairs, ◌⊎◌}
 use Rattle.std.proofs.lemmas.List.{get_or-take, get_or_default, length-take-le}
 use mathlib.Core.Logic.{inl, inr}
 
-before_or_at : (b i : ℕ) → b < i + 1 → (b < i) ⊎ (b ≡ i)
+pub before_or_at : (b i : ℕ) → b < i + 1 → (b < i) ⊎ (b ≡ i)
 before_or_at b i h = grind arith
 
 module _ {X : Type 0} (name : X → List ℕ) (xs : List X) (i : ℕ) (x : X) (n : List ℕ) (inside : i < length xs) (item : x ≡ get_or xs i x) (named : n ≡ name (get_or xs i x)) where

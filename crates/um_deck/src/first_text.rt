@@ -4,7 +4,8 @@
 ghost use Rattle.std.specs.Prelude.{◌≡◌, ◌++◌, All, IfOk};
 ghost use Rattle.std.specs.List.{flat_map};
 ghost use Rattle.um_model.specs.declared.deck.Row.{Row};
-ghost use Rattle.um_deck.specs.Decks.{IsPlain, first_deck};
+ghost use Rattle.um_deck.specs.Decks.{IsPlain};
+ghost use Rattle.um_deck.specs.Pieces.{IsMadeOf};
 ghost use Rattle.um_deck.specs.NormalText.{head_lines, row_line, normal_text};
 ghost use Rattle.um_deck.specs.PlainDecks.{IsPlainName, IsRowName, IsFirstDeck};
 
@@ -97,7 +98,7 @@ fn finish(
     rows: List<Row>,
     columns: List<Column>,
 ) -> Result<Deck, Fault>
-    ensures { IfOk result (λ deck. deck ≡ first_deck head.name head.objective_name rows.items columns.items) }
+    ensures { IfOk result (IsMadeOf head.name head.objective_name rows.items columns.items) }
 {
     let Head {
         name,

@@ -1,14 +1,15 @@
 //! The section COLUMNS of a plain deck.
 
-ghost use Rattle.std.specs.Prelude.{◌≡◌, ◌<◌, ℕ, List, ◌∷◌, [], ◌++◌, length, map, All, slice_index_or, IfOk, IfSome};
+ghost use Rattle.std.specs.Prelude.{◌≡◌, ◌<◌, ◌∷◌, [], ◌++◌, length, map, All, slice_index_or, IfOk, IfSome, IsTrue, ◌↔◌, pos};
 ghost use Rattle.um_model.specs.Values.{plain_column};
 ghost use Rattle.um_model.specs.declared.deck.Column.{Column};
-ghost use Rattle.um_model.specs.declared.deck.Entry.{Entry};
+ghost use Rattle.um_deck.specs.Pieces.{Bytes, Entries};
+ghost use Rattle.um_model.specs.declared.deck.Kind.{Kind};
 ghost use Rattle.um_deck.specs.NormalText.{columns_section, column_lines, part_lines, entry_lines, row_names, words_line, coefficient_line};
 ghost use Rattle.um_deck.specs.PlainDecks.{IsPlainName};
 ghost use Rattle.std.specs.Fmt.{signed_decimal};
 
-use crate::first_text::pieces::{last_number, line_start, name_before};
+use crate::first_text::pieces::{last_number, line_start, name_before, same_bytes};
 use crate::{Column, Entry, Fault, Kind, Row};
 use std::alloc::Global;
 use um_num::{List, Name};
@@ -44,11 +45,43 @@ fn read_column(
 {
     let name = name_before(cursor, b" ")?;
     let begun = read_begun(alloc, cursor, objective, rows)?;
-    let parts = if begun.cost == 0 && begun.entries.is_empty() {
-        begun
-    } else {
-        read_entries(alloc, cursor, rows, name, begun)?
-    };
+    let parts = read_more(alloc, cursor, rows, name, begun)?;
+    column_of(alloc, name, parts)
+}
+
+/// What the lines of a column say.
+#[derive(Drop)]
+struct Parts {
+    cost: i64,
+    entries: List<Entry>,
+}
+
+impl Parts {
+    fn of_cost(alloc: Global, cost: i64) -> Parts
+        ensures cost { result.cost ≡ cost }
+        ensures entries { result.entries.items ≡ [] }
+    {
+        Parts {
+            cost,
+            entries: List::new(alloc),
+        }
+    }
+
+    /// Whether there is no cost and no entry.
+    fn is_bare(&self) -> bool
+        ensures { IsTrue result ↔ (self.now.cost ≡ pos 0) × (self.now.entries.items ≡ []) }
+    {
+        self.cost == 0 && self.entries.is_empty()
+    }
+}
+
+/// The column of these parts, with the ends 0 and 0.
+fn column_of(alloc: Global, name: &[u8], parts: Parts) -> Result<Column, Fault>
+    ensures name { IfOk result (λ column. column.name ≡ name.now) }
+    ensures kind { IfOk result (λ column. column.kind ≡ Kind.Continuous) }
+    ensures cost { IfOk result (λ column. column.cost ≡ parts.cost) }
+    ensures entries { IfOk result (λ column. column.entries ≡ parts.entries) }
+{
     Ok(Column {
         name: Name::from_bytes(alloc, name)?,
         kind: Kind::Continuous,
@@ -59,13 +92,6 @@ fn read_column(
     })
 }
 
-/// What the lines of a column say.
-#[derive(Drop)]
-struct Parts {
-    cost: i64,
-    entries: List<Entry>,
-}
-
 /// What a column's first line says, behind its name: its cost, or its first entry.
 fn read_begun(
     alloc: Global,
@@ -73,19 +99,32 @@ fn read_begun(
     objective: &[u8],
     rows: &[Row],
 ) -> Result<Parts, Fault>
-    ensures sound { IfOk result (λ parts. (column : List ℕ) → 32 ∷ (column ++ 32 ∷ cursor.old) ≡ part_lines objective.now (row_names rows.now) column parts.cost parts.entries.items ++ cursor.new) }
+    ensures sound { IfOk result (λ parts. (column : Bytes) → 32 ∷ (column ++ 32 ∷ cursor.old) ≡ part_lines objective.now (row_names rows.now) column parts.cost parts.entries.items ++ cursor.new) }
 {
     let row = name_before(cursor, b" ")?;
     let value = last_number(cursor)?;
-    let mut entries = List::new(alloc);
-    if row == objective {
-        return Ok(Parts {
-            cost: value,
-            entries,
-        });
+    if same_bytes(row, objective) {
+        return Ok(Parts::of_cost(alloc, value));
     }
+    let mut entries = List::new(alloc);
     entries.push(entry_of(rows, row, value)?)?;
     Ok(Parts { cost: 0, entries })
+}
+
+/// Adds the entries of a column's further lines. Behind the cost 0 there is none.
+fn read_more(
+    alloc: Global,
+    cursor: &mut Cursor<'_>,
+    rows: &[Row],
+    column: &[u8],
+    begun: Parts,
+) -> Result<Parts, Fault>
+    ensures sound { IfOk result (λ parts. (objective : Bytes) → part_lines objective (row_names rows.now) column.now begun.cost begun.entries.items ++ cursor.old ≡ part_lines objective (row_names rows.now) column.now parts.cost parts.entries.items ++ cursor.new) }
+{
+    if begun.is_bare() {
+        return Ok(begun);
+    }
+    read_entries(alloc, cursor, rows, column, begun)
 }
 
 /// Adds the entries of the lines that begin with this column's name.
@@ -97,7 +136,7 @@ fn read_entries(
     begun: Parts,
 ) -> Result<Parts, Fault>
     ensures cost { IfOk result (λ parts. parts.cost ≡ begun.cost) }
-    ensures sound { IfOk result (λ parts. (taken : List Entry) × (parts.entries.items ≡ begun.entries.items ++ taken) × (cursor.old ≡ entry_lines (row_names rows.now) column.now taken ++ cursor.new)) }
+    ensures sound { IfOk result (λ parts. (taken : Entries) × (parts.entries.items ≡ begun.entries.items ++ taken) × (cursor.old ≡ entry_lines (row_names rows.now) column.now taken ++ cursor.new)) }
 {
     let start = line_start(alloc, b" ", column)?;
     let Parts { cost, mut entries } = begun;
@@ -134,7 +173,7 @@ fn place_of(rows: &[Row], name: &[u8]) -> Option<usize>
     ensures found { IfSome result (λ place. (place < length rows.now) × (slice_index_or (row_names rows.now) place [] ≡ name.now)) }
 {
     for (place, row) in rows.iter().enumerate() {
-        if row.name.as_bytes() == name {
+        if same_bytes(row.name.as_bytes(), name) {
             return Some(place);
         }
     }

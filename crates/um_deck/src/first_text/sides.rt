@@ -1,12 +1,13 @@
 //! The sections RHS and BOUNDS of a plain deck.
 
-ghost use Rattle.std.specs.Prelude.{◌≡◌, ◌++◌, ℤ, pos, Option, map, OnOk, IfOk, Some, IsTrue};
+ghost use Rattle.std.specs.Prelude.{◌≡◌, ◌++◌, All, ℤ, pos, Option, map, OnOk, IfOk, Some, IsTrue};
 ghost use Rattle.std.specs.List.{list_any};
 ghost use Rattle.um_model.specs.Values.{plain_column};
 ghost use Rattle.um_model.specs.declared.deck.Row.{Row};
 ghost use Rattle.um_model.specs.declared.deck.Column.{Column};
 ghost use Rattle.um_deck.specs.NormalText.{sides_section, side_line, bounds_section, bound_lines, end_line, has_side_line};
-ghost use Rattle.um_deck.specs.Pieces.{without_side, without_ends};
+ghost use Rattle.um_deck.specs.Pieces.{without_side, without_ends, HasWholeEnds};
+ghost use Rattle.um_deck.specs.PlainDecks.{IsWhole};
 
 use crate::first_text::pieces::{last_number, line_start};
 use crate::{Column, Fault, Row};
@@ -69,6 +70,7 @@ fn has_side_line(row: &Row) -> bool
 /// Sets the ends of all columns. The section is left out where there are no columns.
 pub fn read_bounds(cursor: &mut Cursor<'_>, columns: &mut List<Column>) -> Result<(), Fault>
     ensures kept { OnOk result (map without_ends columns.new.items ≡ map without_ends columns.old.items) }
+    ensures whole { OnOk result (All HasWholeEnds columns.new.items) }
     ensures sound { OnOk result (cursor.old ≡ bounds_section (map plain_column columns.new.items) ++ cursor.new) }
 {
     if columns.is_empty() {
@@ -83,6 +85,7 @@ pub fn read_bounds(cursor: &mut Cursor<'_>, columns: &mut List<Column>) -> Resul
 
 fn read_ends(cursor: &mut Cursor<'_>, column: &mut Column) -> Result<(), Fault>
     ensures kept { OnOk result (without_ends column.new ≡ without_ends column.old) }
+    ensures whole { OnOk result (HasWholeEnds column.new) }
     ensures sound { OnOk result (cursor.old ≡ bound_lines (plain_column column.new) ++ cursor.new) }
 {
     let low = read_end(cursor, b"LO", column.name.as_bytes())?;
@@ -94,6 +97,7 @@ fn read_ends(cursor: &mut Cursor<'_>, column: &mut Column) -> Result<(), Fault>
 
 /// An end in thousandths, from a line of this kind that names this column.
 fn read_end(cursor: &mut Cursor<'_>, kind: &[u8], column: &[u8]) -> Result<i64, Fault>
+    ensures whole { IfOk result IsWhole }
     ensures sound { IfOk result (λ end. cursor.old ≡ end_line kind.now column.now (Some end) ++ cursor.new) }
 {
     cursor.expect(b" ")?;
