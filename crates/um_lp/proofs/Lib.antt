@@ -1,0 +1,14 @@
+pub mod Acts
+pub mod Equations
+pub mod Examples
+pub mod OneNext
+pub mod OneState
+pub mod Orders
+pub mod Pivots
+pub mod ReducedCosts
+pub mod Rows
+pub mod Solutions
+pub mod Starts
+pub mod Sums
+pub mod Unique
+pub mod Values
