@@ -1,0 +1,5 @@
+pub mod Feasible
+pub mod Firsts
+pub mod Signs
+pub mod Sizes
+pub mod Wides

@@ -1,0 +1,39 @@
+-- What a step and a run of steps came to.
+use Rattle.std.specs.Prelude.{◌≡◌, ℕ}
+use Rattle.um_lp.specs.Boards.{IsOutOfRange}
+use Rattle.um_lp.specs.States.{State}
+use Rattle.um_lp.specs.DualSteps.{Next, Ended as NextEnded, NoPoint as NextNoPoint, Pivot as NextPivot, IsNext, IsStep}
+use Rattle.um_lp.specs.declared.board.At.{At}
+use Rattle.um_dual.specs.declared.method.Choice.{Choice}
+use Rattle.um_dual.specs.declared.method.Choice.TheVariants.{Ended as ChoiceEnded, NoPoint as ChoiceNoPoint, Pivot as ChoicePivot}
+use Rattle.um_dual.specs.declared.method.Stepped.{Stepped}
+use Rattle.um_dual.specs.declared.method.Stepped.TheVariants.{Pivoted, Ended as StepEnded, NoPoint as StepNoPoint, Wide as StepWide}
+use Rattle.um_dual.specs.declared.method.Ended.{Ended}
+use Rattle.um_dual.specs.declared.method.Ended.TheVariants.{Optimal, NoPoint as RunNoPoint, OutOfPivots, Wide as RunWide}
+
+-- what a choice stands for
+abbrev pub next_of : Choice → Next
+next_of ChoiceEnded = NextEnded
+next_of (ChoiceNoPoint row) = NextNoPoint row
+next_of (ChoicePivot row column to) = NextPivot row column to
+
+-- a step leads on, or tells why none was taken and leaves the state
+abbrev pub IsStepped : State → Stepped → State → Type 0
+IsStepped s Pivoted t = IsStep s t
+IsStepped s StepEnded t = IsNext s NextEnded × (t ≡ s)
+IsStepped s (StepNoPoint row) t = IsNext s (NextNoPoint row) × (t ≡ s)
+IsStepped s (StepWide w) t = IsOutOfRange w × (t ≡ s)
+
+-- a pivot comes next
+pub record IsDue (s : State) : Type 0 where
+  pub row : ℕ
+  pub column : ℕ
+  pub to : At
+  pub next : IsNext s (NextPivot row column to)
+
+-- a run that has so many pivots left ends in this state: no step is due, or one is and no pivot is left, or an operation of it is out of range
+abbrev pub HasEnded : State → ℕ → Ended → Type 0
+HasEnded t left Optimal = IsNext t NextEnded
+HasEnded t left (RunNoPoint row) = IsNext t (NextNoPoint row)
+HasEnded t left OutOfPivots = IsDue t × (left ≡ 0)
+HasEnded t left (RunWide w) = IsOutOfRange w
