@@ -1,0 +1,13 @@
+pub mod Wholes
+pub mod LineNumbers
+pub mod LineValues
+pub mod RowSteps
+pub mod Refusals
+pub mod ValueSteps
+pub mod Taken
+pub mod FrameLemmas
+pub mod Exchanges
+pub mod Ends
+pub mod BoardActs
+pub mod Coefficients
+pub mod Starting

@@ -1,0 +1,7 @@
+pub mod Lines
+pub mod Rows
+pub mod Sheets
+pub mod Stands
+pub mod Frames
+pub mod Starts
+pub mod Combined

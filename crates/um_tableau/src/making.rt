@@ -1,0 +1,61 @@
+//! The sheet of a board at its making, and its room.
+
+ghost use Rattle.std.specs.Prelude.{◌≡◌, length, IfOk};
+ghost use Rattle.um_lp.specs.States.{width};
+ghost use Rattle.um_tableau.specs.Rows.{AreLong, AreSpare};
+ghost use Rattle.um_tableau.specs.Sheets.{state_of, AreEndsInRange};
+ghost use Rattle.um_lp.proofs.Starts.{HasSlackBasis};
+
+use crate::given::Given;
+use crate::line::Line;
+use crate::lines::SpareLines;
+use crate::sheet::{Sheet, Spare};
+use crate::start::{
+    first_basic, first_costs, first_statuses, system_rows, zero_ends, zero_line, zero_values,
+};
+use std::alloc::{AllocError, Global};
+
+/// The sheet of the slack basis.
+pub fn first_sheet(alloc: Global, given: &Given) -> Result<Sheet, AllocError>
+    ensures basis { IfOk result (λ sheet. HasSlackBasis (state_of given.now sheet)) }
+    ensures ends { IfOk result (λ sheet. AreEndsInRange sheet.ends.items) }
+{
+    let width = given.width() as usize;
+    Ok(Sheet {
+        basic: first_basic(alloc, given)?,
+        at: first_statuses(alloc, given)?,
+        ends: zero_ends(alloc, width)?,
+        entries: system_rows(alloc, given)?,
+        reduced: first_costs(alloc, given)?,
+        values: zero_values(alloc, width)?,
+    })
+}
+
+/// Lines of zeros.
+fn zero_lines(alloc: Global, rows: usize, width: usize) -> Result<Vec<Line>, AllocError>
+    ensures height { IfOk result (λ lines. length lines.items ≡ rows) }
+    ensures long { IfOk result (λ lines. AreLong width lines.items) }
+{
+    let mut lines = Vec::new(alloc);
+    for _row in 0..rows {
+        lines.push(zero_line(alloc, width)?)?;
+    }
+    Ok(lines)
+}
+
+/// Room for the numbers after an act.
+pub fn first_spare(alloc: Global, given: &Given) -> Result<Spare, AllocError>
+    ensures lines { IfOk result (λ spare. AreSpare given.now.rows (width given.now) spare.lines) }
+    ensures moved { IfOk result (λ spare. length spare.moved.items ≡ given.now.rows) }
+{
+    let rows = given.rows() as usize;
+    let width = given.width() as usize;
+    Ok(Spare {
+        lines: SpareLines {
+            rows: zero_lines(alloc, rows, width)?,
+            line: zero_line(alloc, width)?,
+            reduced: zero_line(alloc, width)?,
+        },
+        moved: zero_values(alloc, rows)?,
+    })
+}
