@@ -1,0 +1,31 @@
+use Rattle.std.proofs.Common.{arith}
+use Rattle.um_relax.proofs.Reboxing.{next_within, next_wanted, one_more, ordered_more, boxed_whole}
+use Rattle.um_relax.proofs.ends.rebox.Goals as goal
+
+pub rebox-requires-clause-column_in : goal.rebox-requires-clause-column_in
+rebox-requires-clause-column_in g c =
+    let s = g.B.Board.state c.args.board.now in
+    next_within c.args.node.now.deck c.args.node.now.limits c.loop-column.column s (g.B.Board.state c.loop-column.board) (g.met.B.Board.belongs c.args.board.now).shape (omega (arith, c.columns-count.ensures)) c.loop-column.invariant.done
+
+pub rebox-requires-clause-wanted : goal.rebox-requires-clause-wanted
+rebox-requires-clause-wanted g c =
+    let s = g.B.Board.state c.args.board.now in
+    next_wanted c.args.node.now.deck c.args.node.now.limits c.loop-column.column s (g.B.Board.state c.loop-column.board) c.ends_on-low.result (g.met.B.Board.belongs c.args.board.now).shape c.requires.wanted
+    (omega (arith, c.columns-count.ensures)) c.loop-column.invariant.done c.ends_on-low.ensures.ends
+
+pub loop-column-preserved : goal.loop-column-preserved
+loop-column-preserved g c =
+    let s = g.B.Board.state c.args.board.now in
+    let d = c.args.node.now.deck in
+    let b = c.args.node.now.limits in
+    record {
+      done = one_more d b c.loop-column.column s (g.B.Board.state c.loop-column.board) (g.B.Board.state c.rebox.new.self) c.ends_on-low.result c.ends_on-low.ensures.ends c.loop-column.invariant.done c.in_default.ensures.ok;
+      ordered = ordered_more d b c.loop-column.column c.ends_on-low.result c.ends_on-low.ensures.ends c.loop-column.invariant.ordered c.ends_on-low.ensures.ordered;
+      keeps = g.met.B.Board.keeps_trans c.args.board.now c.loop-column.board c.rebox.new.self c.loop-column.invariant.keeps c.rebox.ensures.keeps;
+    }
+
+pub returns-clause-ends : goal.returns-clause-ends
+returns-clause-ends g c =
+    let s = g.B.Board.state c.args.board.now in
+    boxed_whole c.args.node.now.deck c.args.node.now.limits c.loop-column.column s (g.B.Board.state c.loop-column.board) (g.met.B.Board.belongs c.args.board.now).shape c.requires.wanted
+    (omega (arith, c.columns-count.ensures, c.loop-column-test.false, c.loop-column.auto.column-end)) c.loop-column.invariant.done c.loop-column.invariant.ordered

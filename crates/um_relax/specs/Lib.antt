@@ -1,0 +1,6 @@
+pub mod Boxed
+pub mod Laws
+pub mod Parts
+pub mod Readings
+pub mod Relaxed
+pub mod WholeMultiples

@@ -1,0 +1,27 @@
+//! The linear relaxation of a deck over a box, and what a board that has ended on it says.
+//!
+//! [`build`] makes the relaxation, [`rebox`] puts the ends of a box on a board. From a board whose
+//! steps have ended, [`multipliers`] reads the rows' multipliers, [`vertex`] the point, and [`farkas`]
+//! the multipliers that show that there is no point. A caller may rest on two laws: the bound of the
+//! multipliers is the objective of the vertex, and the Farkas multipliers empty the box. Numbers are
+//! read as least whole multiples, and refused where one of them is too large for a tree.
+//!
+//! For now of decks without arcs.
+#![tactic(auto)]
+
+mod ends;
+mod fractions;
+mod infeasible;
+pub mod laws;
+mod making;
+mod point;
+mod prices;
+mod whole;
+
+pub use ends::{Reboxed, rebox};
+pub use infeasible::farkas;
+pub use making::build;
+pub use point::vertex;
+pub use prices::{Large, multipliers};
+pub use um_lp::{Multipliers, Price, Relaxation};
+pub use um_model::Point;
