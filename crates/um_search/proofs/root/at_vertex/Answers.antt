@@ -1,0 +1,13 @@
+use Rattle.std.proofs.Common.{◌≡◌, ◌∙◌, sym}
+use Rattle.um_search.proofs.Runs.{run_stands}
+use Rattle.um_search.proofs.Refusals.{large_multipliers, large_vertex}
+use Rattle.um_search.proofs.root.at_vertex.Goals as goal
+
+pub multipliers-requires-clause-frame : goal.multipliers-requires-clause-frame
+multipliers-requires-clause-frame g c = (run_stands c.args.root.now.deck c.args.step (g.B.Board.state c.args.board.now) c.requires.run).frame ∙ sym c.requires.frame
+
+pub vertex-requires-clause-frame : goal.vertex-requires-clause-frame
+vertex-requires-clause-frame g c = (run_stands c.args.root.now.deck c.args.step (g.B.Board.state c.args.board.now) c.requires.run).frame ∙ sym c.requires.frame
+
+pub returns-in-Err : goal.returns-in-Err
+returns-in-Err g c = large_multipliers c.args.root.now.deck c.args.step (g.B.Board.state c.args.board.now) _ c.refused.result c.in-Err.large c.requires.run c.requires.ended c.one_and_none.ensures c.in-Err.ensures.refused c.refused.ensures

@@ -1,0 +1,21 @@
+-- Which decks are searched so far, and which budgets there are.
+use Rattle.std.specs.Prelude.{◌≡◌, ◌≤◌, ◌^◌, pos, All}
+use Rattle.um_model.specs.Values.{DeckValue, ColumnValue}
+use Rattle.um_model.specs.WellFormed.{HasTwoEnds}
+use Rattle.um_model.specs.declared.deck.Kind.TheVariants.{Continuous}
+use Rattle.um_deck.specs.Decks.{IsPlain}
+use Rattle.um_search.specs.declared.budget.Budget.{Budget}
+
+-- no sets and arcs, and every column is continuous with two finite ends
+pub record IsSearched (d : DeckValue) : Type 0 where
+  pub plain : IsPlain d
+  pub continuous : All (λ (c : ColumnValue). c.kind ≡ Continuous) d.columns
+  pub bounded : All (λ (c : ColumnValue). HasTwoEnds c.low c.high) d.columns
+
+-- from 1 to 100,000 nodes and from 1 to 10,000,000 pivots; the tolerance of a deck without arcs is 0
+pub record IsBudget (b : Budget) : Type 0 where
+  pub some_nodes : 1 ≤ b.nodes
+  pub nodes : b.nodes ≤ 100000
+  pub some_pivots : 1 ≤ b.pivots
+  pub pivots : b.pivots ≤ 10000000
+  pub tolerance : b.tolerance ≡ pos 0
