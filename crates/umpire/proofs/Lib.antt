@@ -1,6 +1,5 @@
 pub mod Stops
 pub mod OneLeaf
-pub mod RootBox
 pub mod Stepping
 pub mod Rising
 pub mod Lists
@@ -9,6 +8,12 @@ pub mod NumeralValues
 pub mod WordEnds
 pub mod WordForms
 pub mod TextParts
+pub mod WhyTexts
+pub mod HeadTexts
 pub mod LeafTexts
+pub mod Fields
 pub mod WholeTexts
-pub mod Faults
+pub mod Calls
+pub mod Written
+pub mod Rooms
+pub mod ReportLines

@@ -1,5 +1,5 @@
 -- Steps through a text: what a step takes, it gives back in front of what it left.
-use Rattle.std.proofs.Common.{◌≡◌, FitsSigned, to_z, of_z, ◌^◌, ℕ, zero, suc, ◌<◌, true, false, List, [], ◌∷◌, ◌++◌, length, take, drop, take_while, Option, Some, None, Result, Ok, Err, IsErr, IsErrAnd, MatchResult, ℤ, pos, negsuc, ◌≤ℤ◌, unsigned_abs, nat_eq, codes, ◌-◌, length-drop, refl, sym, ap, ◌∙◌, inl, inr, arith}
+use Rattle.std.proofs.Common.{◌≡◌, FitsSigned, to_z, of_z, ◌^◌, ℕ, zero, suc, ◌<◌, true, false, List, [], ◌∷◌, ◌++◌, length, take, drop, take_while, Option, Some, None, is_some, option_map, Result, Ok, Err, IsErr, IsErrAnd, MatchResult, ℤ, pos, negsuc, ◌≤ℤ◌, unsigned_abs, nat_eq, codes, ◌-◌, length-drop, refl, sym, ap, ◌∙◌, inl, inr, arith}
 use Rattle.std.specs.List.{prefix_len}
 use Rattle.std.proofs.lemmas.Bool.{cases_Bool, cases_lt, cond-true, cond-false, eqb-true, eq-eqb, ne_eqb, lt-ltb, le-ltb, and_from, and_left, and_right}
 use Rattle.std.proofs.lemmas.Int.{ints, to_z-of_z}
@@ -11,10 +11,11 @@ use Rattle.um_laws.specs.Divisors.{gcd}
 use Rattle.um_num.specs.Views.{rational}
 use Rattle.um_model.specs.Values.{DeckValue}
 use Rattle.umpire.specs.FirstTrees.{is_one_word}
+use Rattle.umpire.specs.PartReading.{maybe_point_at}
 use Rattle.umpire.specs.TreeText.{name_word}
 use Rattle.umpire.specs.declared.outcome.TreeWord.{TreeWord}
 use Rattle.umpire.specs.declared.outcome.TreeWord.TheVariants.{NotYet, Memory}
-use Rattle.umpire.specs.TreeReading.{IsRefused, Steps, Reads, Gives, then_step, after, rest_of, with_rest, number_at, number_value, number_or_none, counted, counts_at, deck_at, natural_below, nonzero, from_zero, from_one, reduced, solved_at, work_at, at_end}
+use Rattle.umpire.specs.TreeReading.{IsRefused, Steps, Reads, Gives, then_step, after, rest_of, with_rest, number_at, number_value, number_or_none, counted, counts_at, deck_at, natural_below, nonzero, from_zero, from_one, reduced, solved_at, work_at, point_at, at_end}
 
 pub after_append : (xs ts : List ℕ) → after xs (xs ++ ts) ≡ Some ts
 unfolding after
@@ -208,6 +209,16 @@ pub solved_worked : (bytes now : List ℕ) → ((ts : List ℕ) → bytes ≡ co
 unfolding solved_at
 solved_worked bytes now h same = let f : after (codes "- -") bytes ≡ None = after_none (codes "- -") bytes h in rw (f, same) refl
 
+-- ---- whether there is a point
+
+pub point_skipped : (columns : ℕ) (bytes left : List ℕ) → bytes ≡ codes "none" ++ left → maybe_point_at columns bytes ≡ Some (None, left)
+unfolding maybe_point_at
+point_skipped columns bytes left e = let f : after (codes "none") bytes ≡ Some left = ap (after (codes "none")) e ∙ after_append (codes "none") left in rw f refl
+
+pub point_next : (columns : ℕ) (bytes now : List ℕ) → ((ts : List ℕ) → bytes ≡ codes "none" ++ ts → ⊥) → now ≡ bytes → maybe_point_at columns bytes ≡ then_step (point_at columns now) (λ p. Some (Some p.0, p.1))
+unfolding maybe_point_at
+point_next columns bytes now h same = let f : after (codes "none") bytes ≡ None = after_none (codes "none") bytes h in rw (f, same) refl
+
 pub one_bits : (z : ℤ) (g : ℕ) → z ≡ pos g → unsigned_abs z < 2 ^ 127 → of_z w128 z ≡ 1 → g ≡ 1
 one_bits z g is h e = let f = as_count z 1 h (omega arith) e in omega (arith, ints, is, f)
 
@@ -234,3 +245,7 @@ at_end_no x (byte ∷ bytes) h = refl
 
 pub skipped : (front bytes left : List ℕ) → bytes ≡ front ++ left → after front bytes ≡ Some left
 skipped front bytes left e = ap (after front) e ∙ after_append front left
+
+pub some_kept : {A B : Type 0} (f : A → B) (o : Option A) → is_some (option_map f o) ≡ is_some o
+some_kept f None = refl
+some_kept f (Some x) = refl

@@ -1,6 +1,7 @@
--- The words of fractions and prices are those that are read.
-use Rattle.std.proofs.Common.{◌≡◌, ◌≢◌, ℕ, zero, suc, ◌<◌, ◌^◌, true, false, ◌&&◌, nat_lt, nat_eq, List, ◌∷◌, ◌++◌, take_while, decimal, ℤ, pos, negsuc, ◌≤ℤ◌, unsigned_abs, Option, Some, None, refl, sym, subst, ap, ◌∙◌, inl, inr, arith}
+-- The words of numbers, fractions and prices are those that are read, and so are words of a list.
+use Rattle.std.proofs.Common.{◌≡◌, ◌≢◌, ℕ, zero, suc, ◌<◌, ◌≤◌, ◌^◌, true, false, ◌&&◌, nat_lt, nat_eq, List, [], ◌∷◌, ◌++◌, take_while, decimal, ℤ, pos, negsuc, ◌≤ℤ◌, unsigned_abs, Option, Some, None, IfSome, codes, refl, sym, subst, ap, ◌∙◌, inl, inr, arith}
 use Rattle.std.specs.Fmt.{signed_decimal}
+use Rattle.std.specs.Cmp.Lexicographic.{same_text}
 use Rattle.std.specs.List.{list_all}
 use Rattle.std.specs.Int.{◌∣◌}
 use Rattle.std.proofs.lemmas.Int.{ints}
@@ -15,11 +16,11 @@ use Rattle.um_num.specs.Views.{rational, num_is, den_is}
 use Rattle.um_text.specs.Words.{is_word_byte}
 use Rattle.um_model.specs.declared.multipliers.Price.{Price}
 use Rattle.umpire.specs.FirstTrees.{IsFraction, IsPrice}
-use Rattle.umpire.specs.TreeReading.{after, then_step, rest_of, with_rest, number_value, sides_of, reduced, fraction_value, fraction_at, natural_below, nonzero, price_from, price_of, price_value, fraction_of}
-use Rattle.umpire.specs.TreeText.{fraction_word, price_word}
+use Rattle.umpire.specs.TreeReading.{after, then_step, rest_of, with_rest, number_value, sides_of, reduced, fraction_value, maybe_fraction, is_word, word_at, named, number_at, signed_at, natural_at, natural_below, nonzero, price_from, price_of, price_value, fraction_of}
+use Rattle.umpire.specs.TreeText.{fraction_word, fraction_or_none, price_word}
 use Rattle.umpire.proofs.NumeralValues.{text_value, value_text}
 use Rattle.umpire.proofs.Stepping.{after_append, after_some, reduced_ok, below_ok, nonzero_ok}
-use Rattle.umpire.proofs.WordEnds.{goes_on, word_cut, signed_word, signed_no_slash, signed_no_colon, all_append, value_cut, sides_text, sides_none, sides_from, nothing_is_some}
+use Rattle.umpire.proofs.WordEnds.{goes_on, word_cut, signed_word, signed_no_slash, signed_no_colon, all_append, value_cut, number_text, number_from, sides_text, sides_none, sides_from, nothing_is_some, some_same, some_with_rest}
 
 -- the step and what follows it
 pub record IsThen {A B : Type 0} (o : Option A) (next : A → Option B) (y : B) : Type 0 where
@@ -146,19 +147,99 @@ fraction_from word x e = go (sides_of 47 word) refl e
         let cut = sides_from 47 word sides.0 sides.1 is in
         (cut ∙ ap (λ w. w ++ 47 ∷ sides.1) num.0 ∙ ap (λ w. signed_decimal s.got ++ 47 ∷ w) den.0 ∙ both.0, both.1)
 
-pub fraction_at_text : (label : List ℕ) (x : Rational) (t : List ℕ) → IsFraction x → goes_on t ≡ false → fraction_at label (label ++ (fraction_word x ++ t)) ≡ Some (x, t)
-unfolding fraction_at
-fraction_at_text label x t h e =
-    let cut = word_cut (fraction_word x) t (slash_word x h) e in
-    rw (after_append label (fraction_word x ++ t), cut.word_is, cut.rest_is, fraction_text x h) refl
+-- ---- a fraction, or `none`
 
-pub fraction_at_from : (label bytes : List ℕ) (x : Rational) (t : List ℕ) → fraction_at label bytes ≡ Some (x, t) → (bytes ≡ label ++ (fraction_word x ++ t)) × IsFraction x
-unfolding fraction_at
-fraction_at_from label bytes x t e =
-    let s = then_some (after label bytes) (λ s. with_rest (rest_of s) (fraction_value (take_while is_word_byte s))) (x, t) e in
-    let cut = value_cut fraction_value s.got x t s.rest in
-    let text = fraction_from (take_while is_word_byte s.got) x cut.0 in
-    (after_some label bytes s.got s.step ∙ ap (λ l. label ++ l) (cut.1 ∙ ap (λ w. w ++ t) text.0), text.1)
+no_fraction : fraction_value (codes "none") ≡ None
+unfolding fraction_value sides_of number_value
+no_fraction = refl
+
+pub maybe_bytes : (o : Option Rational) → IfSome o IsFraction → list_all is_word_byte (fraction_or_none o) ≡ true
+maybe_bytes None h = refl
+maybe_bytes (Some x) h = slash_word x h
+
+pub maybe_text : (o : Option Rational) → IfSome o IsFraction → maybe_fraction (fraction_or_none o) ≡ Some o
+unfolding maybe_fraction
+maybe_text None h = refl
+maybe_text (Some x) h =
+    elim (cases_Bool (is_word (fraction_word x) (codes "none"))) [
+      | inl same ↦
+          let is : fraction_word x ≡ codes "none" = same_text (fraction_word x) (codes "none") (sym same) in
+          absurd (nothing_is_some x (sym no_fraction ∙ ap fraction_value (sym is) ∙ fraction_text x h))
+      | inr other ↦ rw (other, fraction_text x h) refl
+    ]
+
+pub maybe_from : (word : List ℕ) (o : Option Rational) → maybe_fraction word ≡ Some o → (word ≡ fraction_or_none o) × IfSome o IsFraction
+unfolding maybe_fraction
+maybe_from word o e =
+    let P : Option Rational → Type 0 = λ q. (word ≡ fraction_or_none q) × IfSome q IsFraction in
+    elim (cases_Bool (is_word word (codes "none"))) [
+      | inl same ↦
+          let f : Some None ≡ Some o = rw same at e in
+          subst P (some_same None o f) (same_text word (codes "none") (sym same), tt)
+      | inr other ↦
+          let f : then_step (fraction_value word) (λ x. Some (Some x)) ≡ Some o = rw other at e in
+          let a = then_some (fraction_value word) (λ x. Some (Some x)) o f in
+          subst P (some_same (Some a.got) o a.rest) (fraction_from word a.got a.step)
+    ]
+
+-- ---- words behind a label
+
+pub word_at_text : {A : Type 0} (value : List ℕ → Option A) (label word : List ℕ) (x : A) (t : List ℕ) → list_all is_word_byte word ≡ true → goes_on t ≡ false → value word ≡ Some x → word_at value label (label ++ (word ++ t)) ≡ Some (x, t)
+unfolding word_at
+word_at_text value label word x t all e is =
+    let cut = word_cut word t all e in
+    rw (after_append label (word ++ t), cut.word_is, cut.rest_is, is) refl
+
+-- the word that was read
+pub record IsWordAt {A : Type 0} (value : List ℕ → Option A) (label bytes : List ℕ) (x : A) (t : List ℕ) : Type 0 where
+  pub word : List ℕ
+  pub is : value word ≡ Some x
+  pub text : bytes ≡ label ++ (word ++ t)
+
+pub word_at_from : {A : Type 0} (value : List ℕ → Option A) (label bytes : List ℕ) (x : A) (t : List ℕ) → word_at value label bytes ≡ Some (x, t) → IsWordAt value label bytes x t
+unfolding word_at
+word_at_from value label bytes x t e =
+    let s = then_some (after label bytes) (λ s. with_rest (rest_of s) (value (take_while is_word_byte s))) (x, t) e in
+    let cut = value_cut value s.got x t s.rest in
+    record { word = take_while is_word_byte s.got; is = cut.0; text = after_some label bytes s.got s.step ∙ ap (λ l. label ++ l) cut.1 }
+
+pub named_from : {A : Type 0} (word_of : A → List ℕ) (xs : List A) (word : List ℕ) (x : A) → named word_of xs word ≡ Some x → word ≡ word_of x
+named_from word_of [] word x e = absurd (nothing_is_some x e)
+named_from word_of (y ∷ ys) word x e =
+    elim (cases_Bool (is_word word (word_of y))) [
+      | inl same ↦
+          let f : Some y ≡ Some x = rw same at e in
+          same_text word (word_of y) (sym same) ∙ ap word_of (some_same y x f)
+      | inr other ↦
+          let f : named word_of ys word ≡ Some x = rw other at e in
+          named_from word_of ys word x f
+    ]
+
+-- ---- numbers behind a blank
+
+pub signed_text : (z : ℤ) (t : List ℕ) → IsInRange z → goes_on t ≡ false → signed_at (32 ∷ (signed_decimal z ++ t)) ≡ Some (z, t)
+unfolding signed_at
+signed_text z t h e = rw (after_append (codes " ") (signed_decimal z ++ t)) (number_text z t h e)
+
+pub signed_from : (bytes : List ℕ) (z : ℤ) (t : List ℕ) → signed_at bytes ≡ Some (z, t) → (bytes ≡ 32 ∷ (signed_decimal z ++ t)) × IsInRange z
+unfolding signed_at
+signed_from bytes z t e =
+    let a = then_some (after (codes " ") bytes) (λ s. number_at s) (z, t) e in
+    let number = number_from a.got z t a.rest in
+    (after_some (codes " ") bytes a.got a.step ∙ ap (λ (l : List ℕ). 32 ∷ l) number.0, number.1)
+
+pub natural_text : (limit n : ℕ) (t : List ℕ) → n < limit → limit ≤ 2 ^ 64 → goes_on t ≡ false → natural_at limit (32 ∷ (decimal n ++ t)) ≡ Some (n, t)
+unfolding natural_at
+natural_text limit n t h k e = rw (signed_text (pos n) t (omega (arith, h, k)) e, below_ok limit (pos n) n refl h) refl
+
+pub natural_from : (limit : ℕ) (bytes : List ℕ) (n : ℕ) (t : List ℕ) → natural_at limit bytes ≡ Some (n, t) → (bytes ≡ 32 ∷ (decimal n ++ t)) × (n < limit)
+unfolding natural_at
+natural_from limit bytes n t e =
+    let a = then_some (signed_at bytes) (λ p. with_rest p.1 (natural_below limit p.0)) (n, t) e in
+    let both = some_with_rest a.got.1 (natural_below limit a.got.0) n t a.rest in
+    let below = below_from limit a.got.0 n both.0 in
+    let number = signed_from bytes a.got.0 a.got.1 a.step in
+    (number.0 ∙ ap (λ (z : ℤ). 32 ∷ (signed_decimal z ++ a.got.1)) below.0 ∙ ap (λ (l : List ℕ). 32 ∷ (decimal n ++ l)) both.1, below.1)
 
 -- ---- prices
 

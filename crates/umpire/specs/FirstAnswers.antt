@@ -1,36 +1,34 @@
--- Answers that the checker takes so far: optimal ones whose tree is one bounded leaf.
-use Rattle.std.specs.Prelude.{◌≡◌, ℕ, List, [], ◌∷◌, None, IsSome, ⊤}
+-- Answers that the checker takes so far: bounded ones whose tree is one leaf with multipliers.
+use Rattle.std.specs.Prelude.{◌≡◌, ◌≢◌, List, [], ◌∷◌, None, ⊤}
+use Rattle.um_model.specs.Accepted.{FieldsGo}
 use Rattle.um_model.specs.declared.answer.Answer.{Answer}
-use Rattle.um_model.specs.declared.answer.AnswerKind.TheVariants.{Optimal}
-use Rattle.um_model.specs.declared.multipliers.Multipliers.{Multipliers}
+use Rattle.um_model.specs.declared.answer.AnswerKind.TheVariants.{Unbounded}
 use Rattle.um_model.specs.declared.tree.Node.{Node}
 use Rattle.um_model.specs.declared.tree.What.{What}
 use Rattle.um_model.specs.declared.tree.What.TheVariants.{Split, Bounded, Empty, Void, OpenLeaf}
 
-abbrev pub IsBounded : What → Type 0
-IsBounded (Split branch) = ⊥
-IsBounded (Bounded y) = ⊤
-IsBounded (Empty y) = ⊥
-IsBounded (Void column) = ⊥
-IsBounded (OpenLeaf y) = ⊥
+-- a leaf with multipliers: bounded, empty or open
+abbrev pub IsLeaf : What → Type 0
+IsLeaf (Split branch) = ⊥
+IsLeaf (Bounded y) = ⊤
+IsLeaf (Empty y) = ⊤
+IsLeaf (Void column) = ⊥
+IsLeaf (OpenLeaf y) = ⊤
 
 abbrev pub IsOneLeaf : List Node → Type 0
 IsOneLeaf [] = ⊥
-IsOneLeaf (n ∷ []) = IsBounded n.what
+IsOneLeaf (n ∷ []) = IsLeaf n.what
 IsOneLeaf (n ∷ (m ∷ ns)) = ⊥
 
--- an optimal answer with a point, its objective and a bound, whose tree is one bounded leaf
+-- an answer that is not unbounded, has the fields of its kind and no ray, and whose tree is one leaf with multipliers
 pub record IsFirstAnswer (a : Answer) : Type 0 where
-  pub kind : a.kind ≡ Optimal
-  pub reason : a.why ≡ None
-  pub objective : IsSome a.objective
-  pub bound : IsSome a.bound
-  pub point : IsSome a.point
+  pub kind : a.kind ≢ Unbounded
+  pub fields : FieldsGo a
   pub ray : a.ray ≡ None
   pub tree : IsOneLeaf a.tree
 
--- the tree is one leaf with these multipliers
-abbrev pub IsTheLeaf : List Node → Multipliers → Type 0
-IsTheLeaf [] y = ⊥
-IsTheLeaf (n ∷ []) y = n.what ≡ Bounded y
-IsTheLeaf (n ∷ (m ∷ ns)) y = ⊥
+-- the tree is one node, of which this became
+abbrev pub IsTheLeaf : List Node → What → Type 0
+IsTheLeaf [] w = ⊥
+IsTheLeaf (n ∷ []) w = n.what ≡ w
+IsTheLeaf (n ∷ (m ∷ ns)) w = ⊥

@@ -1,11 +1,16 @@
 -- The answers that the reader of trees of one leaf takes.
-use Rattle.std.specs.Prelude.{◌≡◌, ◌≢◌, ℕ, ◌<◌, ◌^◌, Bool, ◌||◌, not, nat_eq, ℤ, pos, ◌≤ℤ◌, unsigned_abs, List, [], ◌∷◌, length, All, None, IfSome, IsSomeAnd, true}
+use Rattle.std.specs.Prelude.{◌≡◌, ◌≢◌, ◌↔◌, ℕ, ◌<◌, ◌^◌, Bool, ◌||◌, not, nat_eq, ℤ, pos, ◌≤ℤ◌, unsigned_abs, List, [], ◌∷◌, length, All, None, IsSome, IsNone, IfSome, true, ⊤}
 use Rattle.std.specs.List.{list_all}
 use Rattle.um_laws.specs.Rational.{Rational}
 use Rattle.um_num.specs.Numbers.{IsInRange}
+use Rattle.um_num.specs.declared.exact.Wide.{Wide}
 use Rattle.um_model.specs.Values.{DeckValue, PointValue, MultipliersValue}
 use Rattle.um_model.specs.Checkable.{HasRisingRows}
-use Rattle.um_model.specs.declared.answer.AnswerKind.TheVariants.{Optimal}
+use Rattle.um_model.specs.Accepted.{WhyGoes}
+use Rattle.um_model.specs.declared.answer.AnswerKind.{AnswerKind}
+use Rattle.um_model.specs.declared.answer.AnswerKind.TheVariants as kind
+use Rattle.um_model.specs.declared.answer.Why.{Why}
+use Rattle.um_model.specs.declared.answer.Why.TheVariants as why
 use Rattle.um_model.specs.declared.multipliers.Price.{Price}
 use Rattle.um_model.specs.declared.tree.Solved.{Solved}
 use Rattle.umpire.specs.AnswerValues.{AnswerValue, NodeValue, WhatValue}
@@ -53,30 +58,100 @@ pub record AreMultipliersOver (rows : ℕ) (y : MultipliersValue) : Type 0 where
   pub prices : All IsPrice y.rows
   pub rising : HasRisingRows rows y.rows
 
-abbrev pub IsBoundedOver : ℕ → WhatValue → Type 0
-IsBoundedOver rows (Split branch) = ⊥
-IsBoundedOver rows (Bounded y) = AreMultipliersOver rows y
-IsBoundedOver rows (Empty y) = ⊥
-IsBoundedOver rows (Void column) = ⊥
-IsBoundedOver rows (OpenLeaf y) = ⊥
+-- multipliers that show that a box has no point: the objective's is 0
+pub record AreEmptyOver (rows : ℕ) (y : MultipliersValue) : Type 0 where
+  pub zero_first : y.y0 ≡ pos 0
+  pub multipliers : AreMultipliersOver rows y
+
+abbrev pub IsLeafWhat : ℕ → WhatValue → Type 0
+IsLeafWhat rows (Split branch) = ⊥
+IsLeafWhat rows (Bounded y) = AreMultipliersOver rows y
+IsLeafWhat rows (Empty y) = AreEmptyOver rows y
+IsLeafWhat rows (Void column) = ⊥
+IsLeafWhat rows (OpenLeaf y) = AreMultipliersOver rows y
 
 pub record IsLeafOver (rows : ℕ) (n : NodeValue) : Type 0 where
   pub solved : IfSome n.solved IsSolved
-  pub what : IsBoundedOver rows n.what
+  pub what : IsLeafWhat rows n.what
 
 abbrev pub IsOneLeafOver : ℕ → List NodeValue → Type 0
 IsOneLeafOver rows [] = ⊥
 IsOneLeafOver rows (n ∷ []) = IsLeafOver rows n
 IsOneLeafOver rows (n ∷ (m ∷ ns)) = ⊥
 
--- an optimal answer with objective, bound and point, whose tree is one bounded leaf, for a deck whose name is one word
+-- ---- why a search stopped early
+
+-- both operands are numbers that the program may hold
+pub record IsWide (w : Wide) : Type 0 where
+  pub left : IsInRange w.left
+  pub right : IsInRange w.right
+
+-- the number of a node, a step, and the operation that left the range
+pub record IsEvent (number step : ℕ) (wide : Wide) : Type 0 where
+  pub number_size : number < 2 ^ 32
+  pub step_size : step < 2 ^ 64
+  pub operands : IsWide wide
+
+abbrev pub IsWhy : Why → Type 0
+IsWhy why.Nodes = ⊤
+IsWhy why.Pivots = ⊤
+IsWhy (why.Points column) = column < 2 ^ 32
+IsWhy (why.Grid number) = number < 2 ^ 32
+IsWhy (why.Pivot number step wide) = IsEvent number step wide
+IsWhy (why.Value number step wide) = IsEvent number step wide
+IsWhy (why.Leaf number) = number < 2 ^ 32
+IsWhy (why.Vertex number) = number < 2 ^ 32
+IsWhy why.Ray = ⊤
+
+-- ---- the fields of each kind
+
+-- a point, its objective and a bound
+pub record HasOptimalFields (a : AnswerValue) : Type 0 where
+  pub point : IsSome a.point
+  pub objective : IsSome a.objective
+  pub bound : IsSome a.bound
+  pub ray : IsNone a.ray
+
+pub record HasInfeasibleFields (a : AnswerValue) : Type 0 where
+  pub point : IsNone a.point
+  pub objective : IsNone a.objective
+  pub bound : IsNone a.bound
+  pub ray : IsNone a.ray
+
+-- a point and a ray, and no tree
+pub record HasUnboundedFields (a : AnswerValue) : Type 0 where
+  pub point : IsSome a.point
+  pub objective : IsNone a.objective
+  pub bound : IsNone a.bound
+  pub ray : IsSome a.ray
+  pub tree : a.tree ≡ []
+
+-- an objective exactly where there is a point
+pub record HasStoppedFields (a : AnswerValue) : Type 0 where
+  pub objective : IsSome a.objective ↔ IsSome a.point
+  pub ray : IsNone a.ray
+
+abbrev pub HasFieldsOf : AnswerKind → AnswerValue → Type 0
+HasFieldsOf kind.Optimal a = HasOptimalFields a
+HasFieldsOf kind.Infeasible a = HasInfeasibleFields a
+HasFieldsOf kind.Unbounded a = HasUnboundedFields a
+HasFieldsOf kind.Limit a = HasStoppedFields a
+HasFieldsOf kind.Overflow a = HasStoppedFields a
+
+-- the fields are those of the answer's kind
+pub record FieldsGoOf (a : AnswerValue) : Type 0 where
+  pub reason : WhyGoes a.kind a.why
+  pub fields : HasFieldsOf a.kind a
+
+-- an answer that is not unbounded, has the fields of its kind and no ray, and whose tree is one leaf with multipliers, for a deck whose name is one word
 pub record IsFirstTree (d : DeckValue) (a : AnswerValue) : Type 0 where
   pub name : is_one_word d.name ≡ true
-  pub kind : a.kind ≡ Optimal
-  pub why : a.why ≡ None
+  pub kind : a.kind ≢ kind.Unbounded
+  pub fields : FieldsGoOf a
   pub tolerance : IsTolerance a.tolerance
-  pub objective : IsSomeAnd a.objective IsFraction
-  pub bound : IsSomeAnd a.bound IsFraction
-  pub point : IsSomeAnd a.point (IsPointOver (length d.columns))
+  pub why : IfSome a.why IsWhy
+  pub objective : IfSome a.objective IsFraction
+  pub bound : IfSome a.bound IsFraction
+  pub point : IfSome a.point (IsPointOver (length d.columns))
   pub ray : a.ray ≡ None
   pub tree : IsOneLeafOver (length d.rows) a.tree

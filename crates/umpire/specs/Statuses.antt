@@ -1,7 +1,5 @@
 -- What the statuses of a call mean.
 use Rattle.std.specs.Prelude.{ℕ}
-use Rattle.um_model.specs.declared.verdict.Verdict.{Verdict}
-use Rattle.um_model.specs.declared.verdict.Verdict.TheVariants as verdict
 use Rattle.umpire.specs.declared.outcome.Status.{Status}
 use Rattle.umpire.specs.declared.outcome.Status.TheVariants.{Optimal, Infeasible, Unbounded, Limit, Overflow, Refused, Words, Fault, Memory, No}
 

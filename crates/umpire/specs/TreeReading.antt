@@ -1,5 +1,6 @@
--- How the reader of trees of one leaf steps through a text: what each of its parts takes from the front, and what is left then.
+-- How the reader of trees steps through a text: what each word, number and line takes from the front, and what is left then.
 use Rattle.std.specs.Prelude.{◌≡◌, ℕ, zero, suc, ◌+◌, ◌^◌, nat_eq, nat_lt, Bool, true, ◌&&◌, if◌then◌else◌, ℤ, pos, negsuc, unsigned_abs, List, [], ◌∷◌, length, take, drop, take_while, Option, Some, None, Result, Ok, Err, codes, ⊤}
+use Rattle.std.specs.Cmp.Lexicographic.{pointwise}
 use Rattle.std.specs.List.{prefix_len, list_all, position}
 use Rattle.um_laws.specs.Rational.{Rational}
 use Rattle.um_laws.specs.Divisors.{gcd}
@@ -8,11 +9,8 @@ use Rattle.um_text.specs.Numerals.{whole_number}
 use Rattle.um_text.specs.Words.{is_word_byte}
 use Rattle.um_text.specs.declared.numeral.NumberFault.{NumberFault}
 use Rattle.um_model.specs.Values.{DeckValue, PointValue}
-use Rattle.um_model.specs.declared.answer.AnswerKind.TheVariants.{Optimal}
 use Rattle.um_model.specs.declared.multipliers.Price.{Price}
 use Rattle.um_model.specs.declared.tree.Solved.{Solved}
-use Rattle.umpire.specs.AnswerValues.{AnswerValue, NodeValue}
-use Rattle.umpire.specs.AnswerValues.{Bounded}
 use Rattle.umpire.specs.FirstTrees.{is_one_word}
 use Rattle.umpire.specs.TreeText.{name_word}
 use Rattle.umpire.specs.declared.outcome.TreeWord.{TreeWord}
@@ -39,6 +37,11 @@ Reads plain (Err word) step left = IsRefused word step
 abbrev pub Gives : {A : Type 0} → Result A TreeWord → Option A → Type 0
 Gives (Ok x) value = value ≡ Some x
 Gives (Err word) value = IsRefused word value
+
+-- the same, where what the call gives is looked at through a function
+abbrev pub GivesAs : {A V : Type 0} → (A → V) → Result A TreeWord → Option V → Type 0
+GivesAs plain (Ok x) value = value ≡ Some (plain x)
+GivesAs plain (Err word) value = IsRefused word value
 
 -- ---- steps
 
@@ -71,6 +74,19 @@ number_value word = number_or_none (whole_number word)
 unfoldable pub number_at : List ℕ → Option (ℤ × List ℕ)
 number_at bytes = with_rest (rest_of bytes) (number_value (take_while is_word_byte bytes))
 
+-- the word behind these bytes, by its value
+unfoldable pub word_at : {A : Type 0} → (List ℕ → Option A) → List ℕ → List ℕ → Option (A × List ℕ)
+word_at value label bytes = then_step (after label bytes) (λ s. with_rest (rest_of s) (value (take_while is_word_byte s)))
+
+-- whether two words are the same
+abbrev pub is_word : List ℕ → List ℕ → Bool
+is_word word other = pointwise nat_eq word other
+
+-- the first of these whose word this is
+abbrev pub named : {A : Type 0} → (A → List ℕ) → List A → List ℕ → Option A
+named word_of [] word = None
+named word_of (x ∷ xs) word = if is_word word (word_of x) then Some x else named word_of xs word
+
 -- ---- numbers of a kind
 
 -- a number from 0 on, below the limit
@@ -91,6 +107,14 @@ abbrev pub from_one : ℤ → Option ℤ
 from_one (pos zero) = None
 from_one (pos (suc n)) = Some (pos (suc n))
 from_one (negsuc n) = None
+
+-- a blank and a number
+unfoldable pub signed_at : List ℕ → Option (ℤ × List ℕ)
+signed_at bytes = then_step (after (codes " ") bytes) (λ s. number_at s)
+
+-- a blank and a number from 0 on, below the limit
+unfoldable pub natural_at : ℕ → List ℕ → Option (ℕ × List ℕ)
+natural_at limit bytes = then_step (signed_at bytes) (λ p. with_rest p.1 (natural_below limit p.0))
 
 -- ---- words of two numbers
 
@@ -116,6 +140,10 @@ fraction_of word (Some sides) = then_step (number_value sides.0) (λ num. then_s
 
 unfoldable pub fraction_value : List ℕ → Option Rational
 fraction_value word = fraction_of word (sides_of 47 word)
+
+-- a fraction, or the word `none`
+unfoldable pub maybe_fraction : List ℕ → Option (Option Rational)
+maybe_fraction word = if is_word word (codes "none") then Some None else then_step (fraction_value word) (λ x. Some (Some x))
 
 -- a row of its type, and a multiplier that is not 0
 unfoldable pub price_from : ℤ → ℤ → Option Price
@@ -159,10 +187,6 @@ unfoldable pub tolerance_at : List ℕ → Option (ℤ × List ℕ)
 tolerance_at bytes =
     then_step (after (codes "TOLERANCE ") bytes) (λ s. then_step (number_at s) (λ p. then_step (after (codes "\n") p.1) (λ t.
     with_rest t (tolerance_from p.0))))
-
--- a fraction behind these bytes
-unfoldable pub fraction_at : List ℕ → List ℕ → Option (Rational × List ℕ)
-fraction_at label bytes = then_step (after label bytes) (λ s. with_rest (rest_of s) (fraction_value (take_while is_word_byte s)))
 
 -- this many numbers, each behind a blank
 unfoldable pub numbers_at : ℕ → List ℕ → Option (List ℤ × List ℕ)
@@ -211,39 +235,7 @@ do_rows_rise (p ∷ (q ∷ ps)) = nat_lt p.row q.row && do_rows_rise (q ∷ ps)
 abbrev pub are_rows_rising : ℕ → List Price → Bool
 are_rows_rising rows prices = list_all (λ (p : Price). nat_lt p.row rows) prices && do_rows_rise prices
 
--- the line of a bounded leaf
-unfoldable pub leaf_at : ℕ → List ℕ → Option (NodeValue × List ℕ)
-leaf_at rows bytes =
-    then_step (solved_at bytes) (λ p. then_step (after (codes " bounded ") p.1) (λ s. then_step (number_at s) (λ y.
-    then_step (from_zero y.0) (λ y0. then_step (prices_at (suc (length y.1)) y.1) (λ q.
-    if are_rows_rising rows q.0 then Some (record { solved = p.0; what = Bounded (record { y0 = y0; rows = q.0 }) }, q.1) else None)))))
-
+-- nothing is left
 abbrev pub at_end : {A : Type 0} → A → List ℕ → Option A
 at_end x [] = Some x
 at_end x (byte ∷ bytes) = None
-
--- the lines from the point on
-unfoldable pub tree_at : DeckValue → List ℕ → Option (PointValue × NodeValue)
-tree_at d bytes =
-    then_step (after (codes "\nPOINT ") bytes) (λ s. then_step (point_at (length d.columns) s) (λ p.
-    then_step (after (codes "\nRAY none\nNODES 1\n") p.1) (λ t. then_step (leaf_at (length d.rows) t) (λ n.
-    then_step (after (codes "\nEND\n") n.1) (λ u. at_end (p.0, n.0) u)))))
-
-abbrev pub answer_of : ℤ → Rational → Rational → PointValue → NodeValue → AnswerValue
-answer_of tolerance objective bound point leaf = record {
-  kind = Optimal;
-  why = None;
-  tolerance = tolerance;
-  objective = Some objective;
-  bound = Some bound;
-  point = Some point;
-  ray = None;
-  tree = leaf ∷ [];
-}
-
--- the whole text
-unfoldable pub first_tree : DeckValue → List ℕ → Option AnswerValue
-first_tree d bytes =
-    then_step (deck_at d bytes) (λ s. then_step (tolerance_at s) (λ t.
-    then_step (fraction_at (codes "ANSWER optimal\nWHY none\nOBJECTIVE ") t.1) (λ o. then_step (fraction_at (codes "\nBOUND ") o.1) (λ b.
-    then_step (tree_at d b.1) (λ r. Some (answer_of t.0 o.0 b.0 r.0 r.1))))))

@@ -8,6 +8,8 @@ ghost use Rattle.um_deck.specs.Decks.{IsPlain};
 
 mod leaf;
 mod point;
+#[cfg(test)]
+mod tests;
 
 use std::alloc::Global;
 use std::marker::Model;
@@ -46,8 +48,8 @@ impl<'d> Checker<'d> {
     }
 
     /// Yes exactly where the answer is accepted, and else the first reason against it. For now of
-    /// optimal answers that have a point, its objective and a bound, no cause and no ray, and whose
-    /// tree is one bounded leaf.
+    /// answers that are not unbounded and have the fields of their kind, and whose tree is one leaf
+    /// with multipliers.
     pub fn verdict(&mut self, answer: &Answer) -> Verdict
         requires checkable { IsCheckable self.old answer.now }
         requires first { IsFirstAnswer answer.now }

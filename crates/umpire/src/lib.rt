@@ -1,8 +1,9 @@
 //! All that the program `umpire` does, over any desk and sink.
 //!
 //! [`run`] takes the words of a command line, reads the files that they name, and writes one text.
-//! It knows one command so far: `check DECK TREE` reads a deck and a tree and says whether the tree
-//! proves its answer. A caller may rest on this: a refusal is one line that names its cause, nothing
+//! `solve DECK --tree FILE` solves a deck, writes the tree that proves the answer to the file, and then a
+//! report; `check DECK TREE` reads a deck and a tree and says whether the tree proves its answer. A
+//! caller may rest on this: a refusal is one line that names its cause, nothing
 //! is written before the text is known, and after a fault of the outside nothing more is called.
 #![tactic(auto)]
 
@@ -10,8 +11,11 @@ pub mod checker;
 pub mod lines;
 pub mod outcome;
 pub mod reading;
+pub mod report;
+pub mod solving;
 pub mod top;
 pub mod tree_text;
+pub mod tree_writer;
 pub mod words;
 
 pub use checker::Checker;

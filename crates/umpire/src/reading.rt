@@ -1,11 +1,13 @@
 //! From the names of a deck and a tree to the verdict.
 
-ghost use Rattle.std.specs.Prelude.{◌≡◌, false, OnOk, IfOk, IfErr};
+ghost use Rattle.std.specs.Prelude.{◌≡◌, false, IfOk, IfErr};
 ghost use Rattle.um_deck.specs.Decks.{IsPlain};
 ghost use Rattle.um_model.specs.Checkable.{IsCheckable};
+ghost use Rattle.umpire.specs.Findings.{HasDeck, HasTree, HasNoDeck, HasNoTree, IsFinding};
 ghost use Rattle.umpire.specs.FirstAnswers.{IsFirstAnswer};
 ghost use Rattle.um_outside.specs.Scenes.{Idle};
-ghost use Rattle.umpire.specs.Readings.{WasRead, FileStopped, HasReadBoth, WasStopped, deck_refusal, tree_refusal, deck_stop, tree_stop};
+ghost use Rattle.umpire.specs.Words.{Check};
+ghost use Rattle.umpire.specs.Readings.{FileStopped, HasJudged, WasStopped, deck_refusal, tree_refusal, deck_stop, tree_stop};
 
 use crate::checker::Checker;
 use crate::outcome::{ReadFault, Refusal, TreeFault, TreeWord};
@@ -42,8 +44,8 @@ impl From<Memory> for Stop {
 pub fn judge<D: Desk>(alloc: Global, desk: &mut D, files: &CheckFiles<'_>) -> Result<Verdict, Stop>
     requires idle { (D.scene desk.old).mode ≡ Idle }
     requires going { (D.scene desk.old).stopped ≡ false }
-    ensures ok { OnOk result (HasReadBoth (files.now.deck.now, files.now.tree.now) (D.scene desk.old) (D.scene desk.new)) }
-    ensures err { IfErr result (λ stop. WasStopped (files.now.deck.now, files.now.tree.now) stop (D.scene desk.old) (D.scene desk.new)) }
+    ensures ok { IfOk result (λ verdict. HasJudged (files.now.deck.now, files.now.tree.now) verdict (D.scene desk.old) (D.scene desk.new)) }
+    ensures err { IfErr result (λ stop. WasStopped (Check (files.now.deck.now, files.now.tree.now)) stop (D.scene desk.old) (D.scene desk.new)) }
 {
     let deck = read_deck(alloc, desk, files.deck)?;
     match read_tree(alloc, desk, &deck, files.tree) {
@@ -56,19 +58,21 @@ fn check(alloc: Global, deck: &Deck, answer: &Answer) -> Result<Verdict, Stop>
     requires plain { IsPlain deck.now }
     requires checkable { IsCheckable deck.now answer.now }
     requires first { IsFirstAnswer answer.now }
-    ensures { IfErr result (λ stop. stop ≡ Stop.Memory) }
+    ensures ok { IfOk result (IsFinding deck.now answer.now) }
+    ensures err { IfErr result (λ stop. stop ≡ Stop.Memory) }
 {
+    deck.known();
     let mut checker = Checker::new(alloc, deck)?;
     Ok(checker.verdict(answer))
 }
 
 /// A file that is too long is in a form that is not read yet.
-fn read_deck<D: Desk>(alloc: Global, desk: &mut D, name: &str) -> Result<Deck, Stop>
+pub(crate) fn read_deck<D: Desk>(alloc: Global, desk: &mut D, name: &str) -> Result<Deck, Stop>
     requires idle { (D.scene desk.old).mode ≡ Idle }
     requires going { (D.scene desk.old).stopped ≡ false }
-    ensures ok { OnOk result (WasRead name.now (D.scene desk.old) (D.scene desk.new)) }
+    ensures ok { IfOk result (λ deck. HasDeck name.now deck (D.scene desk.old) (D.scene desk.new)) }
     ensures plain { IfOk result IsPlain }
-    ensures err { IfErr result (λ stop. FileStopped deck_refusal name.now stop (D.scene desk.old) (D.scene desk.new)) }
+    ensures err { IfErr result (λ stop. FileStopped deck_refusal (HasNoDeck name.now) stop (D.scene desk.old) (D.scene desk.new)) }
 {
     let bytes = match read_file(alloc, desk, name, MOST_BYTES) {
         Ok(bytes) => bytes,
@@ -85,10 +89,10 @@ fn read_deck<D: Desk>(alloc: Global, desk: &mut D, name: &str) -> Result<Deck, S
 fn read_tree<D: Desk>(alloc: Global, desk: &mut D, deck: &Deck, name: &str) -> Result<Answer, Stop>
     requires idle { (D.scene desk.old).mode ≡ Idle }
     requires going { (D.scene desk.old).stopped ≡ false }
-    ensures ok { OnOk result (WasRead name.now (D.scene desk.old) (D.scene desk.new)) }
+    ensures ok { IfOk result (λ answer. HasTree deck.now name.now answer (D.scene desk.old) (D.scene desk.new)) }
     ensures checkable { IfOk result (IsCheckable deck.now) }
     ensures first { IfOk result IsFirstAnswer }
-    ensures err { IfErr result (λ stop. FileStopped tree_refusal name.now stop (D.scene desk.old) (D.scene desk.new)) }
+    ensures err { IfErr result (λ stop. FileStopped tree_refusal (HasNoTree deck.now name.now) stop (D.scene desk.old) (D.scene desk.new)) }
 {
     let bytes = match read_file(alloc, desk, name, MOST_BYTES) {
         Ok(bytes) => bytes,

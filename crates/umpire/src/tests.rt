@@ -5,6 +5,9 @@ ghost use Rattle.um_outside.specs.Scenes.{Idle};
 ghost use Rattle.um_outside.specs.MemoryDesks.{scene_of};
 ghost use Rattle.um_outside.specs.MemorySinks.{told_of};
 
+mod solving;
+mod texts;
+
 use crate::{Outcome, Refusal, Status, Verdict, WordFault, run};
 use std::alloc::Global;
 use std::process::Abort;
@@ -258,12 +261,25 @@ fn refusals(rt: HostRuntime) -> Result<(), Fail> {
         b"tree refused: NotYet at line 0\n",
     );
 
+    // A deck is refused before the tree is looked for.
+    let told = call(rt.alloc(), "check deck none", &DECK[1..], TREE)?;
+    says(
+        &rt,
+        &told,
+        Status::Refused,
+        b"deck refused: NotYet at line 0\n",
+    );
+
     for line in [
         "",
         "check",
         "check deck",
         "check deck tree more",
+        "solve",
         "solve deck tree",
+        "solve deck --tree",
+        "solve deck --tree -tree",
+        "solve deck --nodes tree",
         "check -deck tree",
         "check deck ",
     ] {
@@ -271,6 +287,45 @@ fn refusals(rt: HostRuntime) -> Result<(), Fail> {
         says(&rt, &told, Status::Words, b"words refused: Line\n");
         assert_eq!(&rt; told.outcome.refusal, Some(Refusal::Words(WordFault::Line)));
     }
+    Ok(())
+}
+
+/// The deck and the tree above, with a name of this length.
+fn named(alloc: Global, length: usize) -> Result<(String, String), Fail> {
+    let letters = vec![in alloc; b'A'; length]?;
+    let name = String::from_utf8_lossy(alloc, letters.as_slice())?;
+    let deck = String::from_utf8_lossy(alloc, &DECK[9..])?;
+    let tree = String::from_utf8_lossy(alloc, &TREE[23..])?;
+    Ok((
+        format!(in alloc; "NAME {name}{deck}")?,
+        format!(in alloc; "UMPIRE TREE 1\nDECK {name}{tree}")?,
+    ))
+}
+
+#[test]
+fn sizes(rt: HostRuntime) -> Result<(), Fail> {
+    // Decks of 65,536 bytes and of one more.
+    let (deck, tree) = named(rt.alloc(), 65389)?;
+    let told = call(
+        rt.alloc(),
+        "check deck tree",
+        deck.as_bytes(),
+        tree.as_bytes(),
+    )?;
+    says(&rt, &told, Status::Optimal, b"yes\n");
+    let (deck, tree) = named(rt.alloc(), 65390)?;
+    let told = call(
+        rt.alloc(),
+        "check deck tree",
+        deck.as_bytes(),
+        tree.as_bytes(),
+    )?;
+    says(
+        &rt,
+        &told,
+        Status::Refused,
+        b"deck refused: NotYet at line 0\n",
+    );
     Ok(())
 }
 

@@ -1,19 +1,18 @@
 //! The top call.
 
-ghost use Rattle.std.specs.Prelude.{◌≡◌, ◌≢◌, false, map, is_some, string_bytes, IfSome, None};
+ghost use Rattle.std.specs.Prelude.{◌≡◌, false, map, option_map, string_bytes, Some};
 ghost use Rattle.um_outside.specs.Scenes.{Idle};
-ghost use Rattle.um_outside.specs.Desks.{WentWell};
-ghost use Rattle.um_outside.specs.Sinks.{TookFront};
 ghost use Rattle.umpire.specs.Lines.{verdict_text, refusal_text};
-ghost use Rattle.umpire.specs.Words.{check_files};
-ghost use Rattle.umpire.specs.Runs.{Judged, WasRefused, HasFaulted, HasFields, WordsJudged, MakesNoFile, WasSaid, EndsAs, refusal_status, verdict_status};
+ghost use Rattle.umpire.specs.Words.{command_of, Check, Solve};
+ghost use Rattle.umpire.specs.Runs.{Ran, SaidOrCut, SaidOrNot, bare, outcome_of_refusal, outcome_of_verdict, outcome_of_answer, refusal_status, verdict_status, answer_status};
 
 use crate::lines::{refusal_line, verdict_line};
 use crate::outcome::{Outcome, Refusal, Status, WordFault};
 use crate::reading::{Stop, judge};
-use crate::words::check_files;
+use crate::solving::{Found, find};
+use crate::words::{CheckFiles, Job, SolveFiles, command};
 use std::alloc::Global;
-use um_model::Verdict;
+use um_model::{AnswerKind, Verdict};
 use um_num::Memory;
 use um_outside::{Desk, Sink, write_all};
 
@@ -22,29 +21,58 @@ pub fn run<D: Desk, O: Sink>(alloc: Global, words: &[String], desk: &mut D, out:
     requires idle { (D.scene desk.old).mode ≡ Idle }
     requires going { (D.scene desk.old).stopped ≡ false }
     requires out_going { (O.told out.old).stopped ≡ false }
-    ensures verdict { IfSome result.verdict (λ v. Judged (check_files (map string_bytes words.now)) v result (D.scene desk.old) (D.scene desk.new) (O.told out.old) (O.told out.new)) }
-    ensures refusal { IfSome result.refusal (λ r. WasRefused (check_files (map string_bytes words.now)) r result (D.scene desk.old) (D.scene desk.new) (O.told out.old) (O.told out.new)) }
-    ensures fault { result.status ≡ Status.Fault → HasFaulted (is_some (check_files (map string_bytes words.now))) (D.scene desk.old) (D.scene desk.new) (O.told out.old) (O.told out.new) }
-    ensures going { result.status ≢ Status.Fault → WentWell (D.scene desk.old) (D.scene desk.new) }
-    ensures memory { result.status ≡ Status.Memory → O.told out.new ≡ O.told out.old }
-    ensures files { MakesNoFile (D.scene desk.old) (D.scene desk.new) }
-    ensures words { WordsJudged (is_some (check_files (map string_bytes words.now))) result (D.scene desk.old) (D.scene desk.new) }
-    ensures fields { HasFields result }
+    ensures { Ran (command_of (map string_bytes words.now)) result (D.scene desk.old) (D.scene desk.new) (O.told out.old) (O.told out.new) }
 {
-    let Some(files) = check_files(words) else {
-        return refuse(alloc, out, Refusal::Words(WordFault::Line));
-    };
-    match judge(alloc, desk, &files) {
-        Ok(verdict) => tell(alloc, out, verdict),
-        Err(Stop::Refused(refusal)) => refuse(alloc, out, refusal),
-        Err(Stop::Fault) => ended(Status::Fault),
-        Err(Stop::Memory) => ended(Status::Memory),
+    match command(words) {
+        None => refuse(alloc, out, Refusal::Words(WordFault::Line)),
+        Some(Job::Check(files)) => run_check(alloc, &files, desk, out),
+        Some(Job::Solve(files)) => run_solve(alloc, &files, desk, out),
     }
 }
 
-/// An outcome without a text.
-fn ended(status: Status) -> Outcome
-    ensures { result ≡ record { status = status; answer = None; verdict = None; refusal = None } }
+/// Checks a tree, and writes the verdict.
+fn run_check<D: Desk, O: Sink>(
+    alloc: Global,
+    files: &CheckFiles<'_>,
+    desk: &mut D,
+    out: &mut O,
+) -> Outcome
+    requires idle { (D.scene desk.old).mode ≡ Idle }
+    requires going { (D.scene desk.old).stopped ≡ false }
+    requires out_going { (O.told out.old).stopped ≡ false }
+    ensures { Ran (Some (Check (files.now.deck.now, files.now.tree.now))) result (D.scene desk.old) (D.scene desk.new) (O.told out.old) (O.told out.new) }
+{
+    match judge(alloc, desk, files) {
+        Ok(verdict) => tell(alloc, out, verdict),
+        Err(Stop::Refused(refusal)) => refuse(alloc, out, refusal),
+        Err(Stop::Fault) => bare(Status::Fault),
+        Err(Stop::Memory) => bare(Status::Memory),
+    }
+}
+
+/// Solves a deck, and writes the report.
+fn run_solve<D: Desk, O: Sink>(
+    alloc: Global,
+    files: &SolveFiles<'_>,
+    desk: &mut D,
+    out: &mut O,
+) -> Outcome
+    requires idle { (D.scene desk.old).mode ≡ Idle }
+    requires going { (D.scene desk.old).stopped ≡ false }
+    requires out_going { (O.told out.old).stopped ≡ false }
+    ensures { Ran (Some (Solve files.now.deck.now (option_map (λ name. name.now) files.now.tree))) result (D.scene desk.old) (D.scene desk.new) (O.told out.old) (O.told out.new) }
+{
+    match find(alloc, desk, files) {
+        Ok(found) => hand_out(out, found),
+        Err(Stop::Refused(refusal)) => refuse(alloc, out, refusal),
+        Err(Stop::Fault) => bare(Status::Fault),
+        Err(Stop::Memory) => bare(Status::Memory),
+    }
+}
+
+/// An outcome that says nothing but its status.
+fn bare(status: Status) -> Outcome
+    ensures { result ≡ bare status }
 {
     Outcome {
         status,
@@ -54,54 +82,66 @@ fn ended(status: Status) -> Outcome
     }
 }
 
+/// Writes a text, after which the call ends so.
+fn say<O: Sink>(out: &mut O, text: &[u8], said: Outcome) -> Outcome
+    requires going { (O.told out.old).stopped ≡ false }
+    ensures { SaidOrCut text.now said result (O.told out.old) (O.told out.new) }
+{
+    match write_all(out, text) {
+        Ok(()) => said,
+        Err(_) => bare(Status::Fault),
+    }
+}
+
 /// Writes the line of a refusal.
 fn refuse<O: Sink>(alloc: Global, out: &mut O, refusal: Refusal) -> Outcome
     requires going { (O.told out.old).stopped ≡ false }
-    ensures verdict { result.verdict ≡ None }
-    ensures refusal { IfSome result.refusal (λ r. WasSaid r refusal (refusal_text refusal) result (refusal_status refusal) (O.told out.old) (O.told out.new)) }
-    ensures fault { result.status ≡ Status.Fault → TookFront (refusal_text refusal) (O.told out.old) (O.told out.new) }
-    ensures memory { result.status ≡ Status.Memory → O.told out.new ≡ O.told out.old }
-    ensures ends { EndsAs (refusal_status refusal) result }
-    ensures fields { HasFields result }
+    ensures { SaidOrNot (refusal_text refusal) (outcome_of_refusal refusal) result (O.told out.old) (O.told out.new) }
 {
     let line = match refusal_line(alloc, &refusal) {
         Ok(line) => line,
-        Err(Memory) => return ended(Status::Memory),
+        Err(Memory) => return bare(Status::Memory),
     };
-    match write_all(out, line.as_slice()) {
-        Ok(()) => Outcome {
-            status: refusal_status(&refusal),
-            answer: None,
-            verdict: None,
-            refusal: Some(refusal),
-        },
-        Err(_) => ended(Status::Fault),
-    }
+    let said = Outcome {
+        status: refusal_status(&refusal),
+        answer: None,
+        verdict: None,
+        refusal: Some(refusal),
+    };
+    say(out, line.as_slice(), said)
 }
 
 /// Writes the line of a verdict.
 fn tell<O: Sink>(alloc: Global, out: &mut O, verdict: Verdict) -> Outcome
     requires going { (O.told out.old).stopped ≡ false }
-    ensures verdict { IfSome result.verdict (λ v. WasSaid v verdict (verdict_text verdict) result (verdict_status verdict) (O.told out.old) (O.told out.new)) }
-    ensures refusal { result.refusal ≡ None }
-    ensures fault { result.status ≡ Status.Fault → TookFront (verdict_text verdict) (O.told out.old) (O.told out.new) }
-    ensures memory { result.status ≡ Status.Memory → O.told out.new ≡ O.told out.old }
-    ensures ends { EndsAs (verdict_status verdict) result }
-    ensures fields { HasFields result }
+    ensures { SaidOrNot (verdict_text verdict) (outcome_of_verdict verdict) result (O.told out.old) (O.told out.new) }
 {
     let line = match verdict_line(alloc, &verdict) {
         Ok(line) => line,
-        Err(Memory) => return ended(Status::Memory),
+        Err(Memory) => return bare(Status::Memory),
     };
-    match write_all(out, line.as_slice()) {
-        Ok(()) => Outcome {
-            status: verdict_status(&verdict),
-            answer: None,
-            verdict: Some(verdict),
-            refusal: None,
-        },
-        Err(_) => ended(Status::Fault),
-    }
+    let said = Outcome {
+        status: verdict_status(&verdict),
+        answer: None,
+        verdict: Some(verdict),
+        refusal: None,
+    };
+    say(out, line.as_slice(), said)
+}
+
+/// Writes the report of an answer.
+fn hand_out<O: Sink>(out: &mut O, found: Found) -> Outcome
+    requires going { (O.told out.old).stopped ≡ false }
+    ensures { SaidOrCut found.report.items (outcome_of_answer found.answer) result (O.told out.old) (O.told out.new) }
+{
+    let Found { answer, report } = found;
+    let said = Outcome {
+        status: answer_status(answer.kind),
+        answer: Some(answer),
+        verdict: None,
+        refusal: None,
+    };
+    say(out, report.as_slice(), said)
 }
 
 fn refusal_status(refusal: &Refusal) -> Status
@@ -121,5 +161,17 @@ fn verdict_status(verdict: &Verdict) -> Status
     match verdict {
         Verdict::Yes => Status::Optimal,
         Verdict::No { .. } => Status::No,
+    }
+}
+
+fn answer_status(kind: AnswerKind) -> Status
+    ensures { result ≡ answer_status kind }
+{
+    match kind {
+        AnswerKind::Optimal => Status::Optimal,
+        AnswerKind::Infeasible => Status::Infeasible,
+        AnswerKind::Unbounded => Status::Unbounded,
+        AnswerKind::Limit => Status::Limit,
+        AnswerKind::Overflow => Status::Overflow,
     }
 }

@@ -1,48 +1,31 @@
-//! The reader of trees of one leaf: texts of optimal answers whose tree is one bounded leaf.
+//! The reader of trees of one leaf: texts of answers whose tree is one leaf with multipliers.
 
-ghost use Rattle.std.specs.Prelude.{◌≡◌, ◌+◌, ◌<◌, ◌≤◌, ◌^◌, ℕ, List, Option, map, pos, ◌≤ℤ◌, unsigned_abs, length, take_while, IfOk, IsTrue, ◌↔◌, All, ◌∷◌, [], MatchResult, MatchOption, IfSome, OnErr, Err, Some, None, codes};
-ghost use Rattle.std.specs.List.{position};
+ghost use Rattle.std.specs.Prelude.{◌≡◌, ◌<◌, ◌^◌, ℕ, List, Bool, is_some, option_map, length, IfOk, ◌∷◌, [], MatchResult, OnErr, Err, Some, None};
 ghost use Rattle.um_model.specs.Values.{plain_point};
-ghost use Rattle.um_model.specs.declared.multipliers.Price.{Price};
-ghost use Rattle.um_model.specs.Checkable.{IsCheckable, HasRisingRows};
+ghost use Rattle.um_model.specs.Checkable.{IsCheckable};
 ghost use Rattle.umpire.specs.AnswerValues.{AnswerValue, plain_answer, plain_node};
 ghost use Rattle.umpire.specs.FirstAnswers.{IsFirstAnswer};
+ghost use Rattle.umpire.specs.FirstReading.{first_tree, tree_at, does_why_go, do_parts_go, is_limit, do_fields_go};
 ghost use Rattle.umpire.specs.FirstTrees.{IsFirstTree, is_one_word, is_name_byte};
-ghost use Rattle.umpire.specs.TreeReading.{Steps, Reads, Gives, IsRefused, is_byte, after, number_at, number_value, natural_below, sides_of, fraction_value, fraction_at, price_value, price_from, solved_from, tolerance_from, reduced, count_at, counts_at, deck_at, tolerance_at, numbers_at, point_at, solved_at, work_at, prices_at, are_rows_rising, leaf_at, tree_at, first_tree, rest_of};
+ghost use Rattle.umpire.specs.TreeReading.{IsRefused, Steps, Reads, Gives, tolerance_from, count_at, counts_at, deck_at, tolerance_at};
 ghost use Rattle.umpire.specs.TreeText.{tree_text, name_word};
-ghost use Rattle.umpire.specs.Trees.{RowsRise};
-ghost use Rattle.um_text.specs.Words.{is_word_byte};
+
+pub mod leaf;
+pub mod numbers;
+pub mod parts;
+pub mod why;
 
 use crate::outcome::TreeWord;
+use crate::tree_text::leaf::read_leaf;
+use crate::tree_text::numbers::{read_number, step_over};
+use crate::tree_text::parts::{Head, read_head, read_maybe_point};
 use std::alloc::Global;
 use um_deck::Deck;
-use um_model::{Answer, AnswerKind, Multipliers, Node, Point, Price, Solved, Tree, TreeFull, What};
-use um_num::{Frac, List, gcd};
-use um_text::{Cursor, Unexpected, whole};
+use um_model::{Answer, AnswerKind, Node, Point, Tree, TreeFull, Why};
+use um_text::Cursor;
 
-/// Steps over these bytes, which must come next.
-fn step_over(cursor: &mut Cursor<'_>, bytes: &[u8]) -> Result<(), TreeWord>
-    ensures { Steps result (after bytes.now cursor.old) cursor.new }
-{
-    if cursor.skip(bytes) {
-        Ok(())
-    } else {
-        Err(TreeWord::NotYet)
-    }
-}
-
-/// The number of the word that comes next.
-fn read_number(cursor: &mut Cursor<'_>) -> Result<i128, TreeWord>
-    ensures number { Reads (λ number. number) result (number_at cursor.old) cursor.new }
-    ensures range { IfOk result (λ number. unsigned_abs number < 2 ^ 127) }
-{
-    match cursor.whole() {
-        Ok(number) => Ok(number),
-        Err(Unexpected) => Err(TreeWord::NotYet),
-    }
-}
-
-/// The answer of which these bytes are the text for this deck, where its tree is one bounded leaf.
+/// The answer of which these bytes are the text for this deck, where it is not unbounded, has the
+/// fields of its kind and no ray, and its tree is one leaf with multipliers.
 ///
 /// The other answers are `NotYet`, for bytes that are no such text, and want of memory. The deck's
 /// name must be one word, of bytes but blank, tab and LF; no name is written `-`.
@@ -76,19 +59,72 @@ fn read_answer(alloc: Global, cursor: &mut Cursor<'_>, deck: &Deck) -> Result<An
 {
     step_over_deck(cursor, deck)?;
     let tolerance = read_tolerance(cursor)?;
-    let objective = read_fraction(cursor, b"ANSWER optimal\nWHY none\nOBJECTIVE ")?;
-    let bound = read_fraction(cursor, b"\nBOUND ")?;
+    let head = read_head(cursor)?;
     let (point, leaf) = read_tree(alloc, cursor, deck)?;
+    if !do_fields_go(&head, point.is_some()) {
+        return Err(TreeWord::NotYet);
+    }
     Ok(Answer {
-        kind: AnswerKind::Optimal,
-        why: None,
+        kind: head.kind,
+        why: head.why,
         tolerance,
-        objective: Some(objective),
-        bound: Some(bound),
-        point: Some(point),
+        objective: head.objective,
+        bound: head.bound,
+        point,
         ray: None,
         tree: tree_of(alloc, leaf)?,
     })
+}
+
+/// Whether the fields are those of the answer's kind.
+fn do_fields_go(head: &Head, point: bool) -> bool
+    ensures { result ≡ do_fields_go head.now point }
+{
+    does_why_go(head.kind, head.why)
+        && do_parts_go(
+            head.kind,
+            point,
+            head.objective.is_some(),
+            head.bound.is_some(),
+        )
+}
+
+/// Whether a reason is there exactly for the kinds that have one, and goes with the kind.
+fn does_why_go(kind: AnswerKind, why: Option<Why>) -> bool
+    ensures { result ≡ does_why_go kind why }
+{
+    match (kind, why) {
+        (AnswerKind::Limit, Some(why)) => is_limit(why),
+        (AnswerKind::Overflow, Some(why)) => !is_limit(why),
+        (AnswerKind::Limit, None) => false,
+        (AnswerKind::Overflow, None) => false,
+        (_, why) => why.is_none(),
+    }
+}
+
+/// Whether the search stopped at its budget or at a limit of its grid.
+fn is_limit(why: Why) -> bool
+    ensures { result ≡ is_limit why }
+{
+    match why {
+        Why::Nodes => true,
+        Why::Pivots => true,
+        Why::Points { .. } => true,
+        Why::Grid { .. } => true,
+        _ => false,
+    }
+}
+
+/// Whether point, objective and bound are there as the kind wants them.
+fn do_parts_go(kind: AnswerKind, point: bool, objective: bool, bound: bool) -> bool
+    ensures { result ≡ do_parts_go kind point objective bound }
+{
+    match kind {
+        AnswerKind::Optimal => point && objective && bound,
+        AnswerKind::Infeasible => !(point || objective || bound),
+        AnswerKind::Unbounded => false,
+        AnswerKind::Limit | AnswerKind::Overflow => objective == point,
+    }
 }
 
 /// Steps over the first two lines: the version, and the deck's name and counts.
@@ -115,7 +151,7 @@ fn is_one_word(name: &[u8]) -> bool
 }
 
 /// The word of a deck's name; a deck without a name has a hyphen in its place.
-fn name_word(name: &[u8]) -> &[u8]
+pub(crate) fn name_word(name: &[u8]) -> &[u8]
     ensures { result.now ≡ name_word name.now }
 {
     if name.is_empty() { b"-" } else { name }
@@ -173,20 +209,16 @@ fn tolerance_of(thousandths: i128) -> Result<i64, TreeWord>
     Ok(thousandths)
 }
 
-/// The fraction behind these bytes.
-fn read_fraction(cursor: &mut Cursor<'_>, label: &[u8]) -> Result<Frac, TreeWord>
-    ensures { Reads (λ fraction. fraction) result (fraction_at label.now cursor.old) cursor.new }
-{
-    step_over(cursor, label)?;
-    fraction(cursor.word())
-}
-
 /// The lines from the point on: the point, and the leaf that is the whole tree.
-fn read_tree(alloc: Global, cursor: &mut Cursor<'_>, deck: &Deck) -> Result<(Point, Node), TreeWord>
-    ensures { MatchResult result (λ p. tree_at deck.now cursor.old ≡ Some (plain_point p.0, plain_node p.1)) (λ word. IsRefused word (tree_at deck.now cursor.old)) }
+fn read_tree(
+    alloc: Global,
+    cursor: &mut Cursor<'_>,
+    deck: &Deck,
+) -> Result<(Option<Point>, Node), TreeWord>
+    ensures { MatchResult result (λ p. tree_at deck.now cursor.old ≡ Some (option_map plain_point p.0, plain_node p.1)) (λ word. IsRefused word (tree_at deck.now cursor.old)) }
 {
     step_over(cursor, b"\nPOINT ")?;
-    let point = read_point(alloc, cursor, deck.columns().len())?;
+    let point = read_maybe_point(alloc, cursor, deck.columns().len())?;
     step_over(cursor, b"\nRAY none\nNODES 1\n")?;
     let leaf = read_leaf(alloc, cursor, deck.rows().len())?;
     step_over(cursor, b"\nEND\n")?;
@@ -194,150 +226,6 @@ fn read_tree(alloc: Global, cursor: &mut Cursor<'_>, deck: &Deck) -> Result<(Poi
         return Err(TreeWord::NotYet);
     }
     Ok((point, leaf))
-}
-
-/// A denominator of at least 1, and as many parts.
-fn read_point(alloc: Global, cursor: &mut Cursor<'_>, columns: usize) -> Result<Point, TreeWord>
-    ensures { Reads plain_point result (point_at columns cursor.old) cursor.new }
-{
-    let den = read_number(cursor)?;
-    if den < 1 {
-        return Err(TreeWord::NotYet);
-    }
-    let parts = read_parts(alloc, cursor, columns)?;
-    Ok(Point { den, parts })
-}
-
-/// As many numbers, each behind a blank.
-fn read_parts(
-    alloc: Global,
-    cursor: &mut Cursor<'_>,
-    columns: usize,
-) -> Result<List<i128>, TreeWord>
-    ensures { Reads (λ parts. parts.items) result (numbers_at columns cursor.old) cursor.new }
-{
-    let mut parts = List::new(alloc);
-    'parts: while parts.len() < columns {
-        step_over(cursor, b" ")?;
-        parts.push(read_number(cursor)?)?;
-    }
-    Ok(parts)
-}
-
-/// The line of a bounded leaf.
-fn read_leaf(alloc: Global, cursor: &mut Cursor<'_>, rows: usize) -> Result<Node, TreeWord>
-    ensures { Reads plain_node result (leaf_at rows cursor.old) cursor.new }
-{
-    let solved = read_solved(cursor)?;
-    step_over(cursor, b" bounded ")?;
-    let y0 = read_number(cursor)?;
-    if y0 < 0 {
-        return Err(TreeWord::NotYet);
-    }
-    let prices = read_prices(alloc, cursor)?;
-    if !have_rising_rows(rows, prices.as_slice()) {
-        return Err(TreeWord::NotYet);
-    }
-    Ok(Node {
-        solved,
-        what: What::Bounded(Multipliers { y0, rows: prices }),
-    })
-}
-
-/// When the leaf was solved, and at what cost; two hyphens where it was not.
-fn read_solved(cursor: &mut Cursor<'_>) -> Result<Option<Solved>, TreeWord>
-    ensures { Reads (λ solved. solved) result (solved_at cursor.old) cursor.new }
-{
-    if cursor.skip(b"- -") {
-        return Ok(None);
-    }
-    Ok(Some(read_work(cursor)?))
-}
-
-/// A number and pivots.
-fn read_work(cursor: &mut Cursor<'_>) -> Result<Solved, TreeWord>
-    ensures { Reads (λ solved. solved) result (work_at cursor.old) cursor.new }
-{
-    let number = read_number(cursor)?;
-    step_over(cursor, b" ")?;
-    let pivots = read_number(cursor)?;
-    solved(number, pivots)
-}
-
-/// The number of a node and its pivots, where both are of their types.
-fn solved(number: i128, pivots: i128) -> Result<Solved, TreeWord>
-    ensures { Gives result (solved_from number pivots) }
-{
-    let Ok(number) = u32::try_from(number) else {
-        return Err(TreeWord::NotYet);
-    };
-    let Ok(pivots) = u64::try_from(pivots) else {
-        return Err(TreeWord::NotYet);
-    };
-    Ok(Solved { number, pivots })
-}
-
-/// The multipliers of rows that follow, each behind a blank.
-fn read_prices(alloc: Global, cursor: &mut Cursor<'_>) -> Result<List<Price>, TreeWord>
-    ensures { (most : ℕ) → length cursor.old < most → Reads (λ prices. prices.items) result (prices_at most cursor.old) cursor.new }
-{
-    let mut prices = List::new(alloc);
-    'prices: while cursor.skip(b" ") {
-        prices.push(price(cursor.word())?)?;
-    }
-    Ok(prices)
-}
-
-/// A row and its multiplier, which is not 0, with a colon between.
-fn price(word: &[u8]) -> Result<Price, TreeWord>
-    ensures { Gives result (price_value word.now) }
-{
-    let Some((row, value)) = sides_of(word, b':') else {
-        return Err(TreeWord::NotYet);
-    };
-    price_of(number(row)?, number(value)?)
-}
-
-/// A row of its type, and a multiplier that is not 0.
-fn price_of(row: i128, value: i128) -> Result<Price, TreeWord>
-    ensures { Gives result (price_from row value) }
-{
-    let Ok(row) = u32::try_from(row) else {
-        return Err(TreeWord::NotYet);
-    };
-    if value == 0 {
-        return Err(TreeWord::NotYet);
-    }
-    Ok(Price { row, value })
-}
-
-/// Whether the rows are below this count, and rise.
-fn have_rising_rows(rows: usize, prices: &[Price]) -> bool
-    ensures rising { IsTrue result ↔ HasRisingRows rows prices.now }
-{
-    are_rows_within(rows, prices) && do_rows_rise(prices)
-}
-
-fn are_rows_within(rows: usize, prices: &[Price]) -> bool
-    ensures { IsTrue result ↔ All (λ (p : Price). p.row < rows) prices.now }
-{
-    for price in prices {
-        if price.row as usize >= rows {
-            return false;
-        }
-    }
-    true
-}
-
-fn do_rows_rise(prices: &[Price]) -> bool
-    ensures { IsTrue result ↔ RowsRise prices.now }
-{
-    for i in 1..prices.len() {
-        if prices[i].row <= prices[i - 1].row {
-            return false;
-        }
-    }
-    true
 }
 
 /// The tree of one node.
@@ -351,51 +239,4 @@ fn tree_of(alloc: Global, node: Node) -> Result<Tree, TreeWord>
         Err(TreeFull::Memory) => Err(TreeWord::Memory),
         Err(TreeFull::Full) => unreachable!(),
     }
-}
-
-/// A whole number, or two with a slash between that are in lowest terms over at least 2.
-fn fraction(word: &[u8]) -> Result<Frac, TreeWord>
-    ensures { Gives result (fraction_value word.now) }
-{
-    let Some((num, den)) = sides_of(word, b'/') else {
-        return Ok(Frac::new(number(word)?, 1));
-    };
-    reduced(number(num)?, number(den)?)
-}
-
-/// The fraction of two parts that are in lowest terms over at least 2.
-fn reduced(num: i128, den: i128) -> Result<Frac, TreeWord>
-    requires num_in { unsigned_abs num < 2 ^ 127 }
-    requires den_in { unsigned_abs den < 2 ^ 127 }
-    ensures { Gives result (reduced num den) }
-{
-    if den < 2 || gcd(num, den) != 1 {
-        return Err(TreeWord::NotYet);
-    }
-    Ok(Frac::new(num, den))
-}
-
-fn number(word: &[u8]) -> Result<i128, TreeWord>
-    ensures value { Gives result (number_value word.now) }
-    ensures range { IfOk result (λ number. unsigned_abs number < 2 ^ 127) }
-{
-    match whole(word) {
-        Ok(number) => Ok(number),
-        Err(_fault) => Err(TreeWord::NotYet),
-    }
-}
-
-/// What stands before and behind the first of these bytes.
-fn sides_of(word: &[u8], separator: u8) -> Option<(&[u8], &[u8])>
-    ensures { MatchOption result (sides_of separator word.now ≡ None) (λ sides. sides_of separator word.now ≡ Some (sides.0.now, sides.1.now)) }
-{
-    let at = place_of(word, separator)?;
-    Some((&word[..at], &word[at + 1..]))
-}
-
-fn place_of(word: &[u8], separator: u8) -> Option<usize>
-    ensures place { result ≡ position (is_byte separator) word.now }
-    ensures within { IfSome result (λ at. at < length word.now) }
-{
-    word.iter().position(|byte| *byte == separator)
 }

@@ -1,7 +1,7 @@
 //! The words of a command line.
 
-ghost use Rattle.std.specs.Prelude.{◌≡◌, IsTrue, ◌↔◌, map, option_map, string_bytes};
-ghost use Rattle.umpire.specs.Words.{check_files, is_file_name};
+ghost use Rattle.std.specs.Prelude.{◌≡◌, [], ◌∷◌, map, option_map, string_bytes};
+ghost use Rattle.umpire.specs.Words.{command_of, command_value, is_file_name};
 
 /// The files of a command `check DECK TREE`.
 #[derive(Clone, Copy, PartialEq, Eq, Debug)]
@@ -10,16 +10,69 @@ pub struct CheckFiles<'w> {
     pub tree: &'w str,
 }
 
-/// The files where the words, behind the program's name, are `check DECK TREE`.
-pub fn check_files(words: &[String]) -> Option<CheckFiles<'_>>
-    ensures { option_map (λ files. (files.deck.now, files.tree.now)) result ≡ check_files (map string_bytes words.now) }
+/// The files of a command `solve DECK --tree FILE`.
+#[derive(Clone, Copy, PartialEq, Eq, Debug)]
+pub struct SolveFiles<'w> {
+    pub deck: &'w str,
+    /// The file for the tree, where one is asked for.
+    pub tree: Option<&'w str>,
+}
+
+/// What a command line asks for.
+#[derive(Clone, Copy, PartialEq, Eq, Debug)]
+pub enum Job<'w> {
+    Check(CheckFiles<'w>),
+    Solve(SolveFiles<'w>),
+}
+
+/// What the words, behind the program's name, ask for.
+pub fn command(words: &[String]) -> Option<Job<'_>>
+    ensures { option_map command_value result ≡ command_of (map string_bytes words.now) }
 {
-    let [command, deck, tree] = words else {
-        return None;
-    };
-    let (deck, tree) = (deck.as_str(), tree.as_str());
-    if command.as_str() == "check" && is_file_name(deck) && is_file_name(tree) {
-        Some(CheckFiles { deck, tree })
+    match words {
+        [command, deck] => solve_alone(command.as_str(), deck.as_str()),
+        [command, deck, tree] => check(command.as_str(), deck.as_str(), tree.as_str()),
+        [command, deck, option, tree] => solve_with_tree(
+            command.as_str(),
+            deck.as_str(),
+            option.as_str(),
+            tree.as_str(),
+        ),
+        _ => None,
+    }
+}
+
+fn solve_alone<'w>(command: &'w str, deck: &'w str) -> Option<Job<'w>>
+    ensures { option_map command_value result ≡ command_of (command.now ∷ deck.now ∷ []) }
+{
+    if command == "solve" && is_file_name(deck) {
+        Some(Job::Solve(SolveFiles { deck, tree: None }))
+    } else {
+        None
+    }
+}
+
+fn check<'w>(command: &'w str, deck: &'w str, tree: &'w str) -> Option<Job<'w>>
+    ensures { option_map command_value result ≡ command_of (command.now ∷ deck.now ∷ tree.now ∷ []) }
+{
+    if command == "check" && is_file_name(deck) && is_file_name(tree) {
+        Some(Job::Check(CheckFiles { deck, tree }))
+    } else {
+        None
+    }
+}
+
+fn solve_with_tree<'w>(
+    command: &'w str,
+    deck: &'w str,
+    option: &'w str,
+    tree: &'w str,
+) -> Option<Job<'w>>
+    ensures { option_map command_value result ≡ command_of (command.now ∷ deck.now ∷ option.now ∷ tree.now ∷ []) }
+{
+    if command == "solve" && is_file_name(deck) && option == "--tree" && is_file_name(tree) {
+        let tree = Some(tree);
+        Some(Job::Solve(SolveFiles { deck, tree }))
     } else {
         None
     }

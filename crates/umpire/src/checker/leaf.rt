@@ -1,18 +1,21 @@
-//! The verdict on a tree of one bounded leaf.
+//! The verdict on a tree of one leaf.
 
-ghost use Rattle.std.specs.Prelude.{◌≡◌, ◌<◌, ◌^◌, pos, ◌<ℤ◌, All, IsTrue, ◌↔◌, unsigned_abs, length};
-ghost use Rattle.um_model.specs.Accepted.{IsSmallMultipliers, BoundedHolds, BoundHolds};
+ghost use Rattle.std.specs.Prelude.{◌≡◌, ◌<◌, ◌^◌, pos, ◌<ℤ◌, All, IsTrue, ◌↔◌, unsigned_abs, length, MatchResult};
+ghost use Rattle.um_model.specs.Accepted.{IsSmallMultipliers, IsStopped, BoundedHolds};
 ghost use Rattle.um_model.specs.Boxes.{root};
 ghost use Rattle.um_model.specs.Checkable.{IsCheckable, HasRisingRows};
+ghost use Rattle.um_model.specs.LeafValue.{Empties};
+ghost use Rattle.um_model.specs.Values.{plain_multipliers};
 ghost use Rattle.um_model.specs.declared.multipliers.Price.{Price};
-ghost use Rattle.umpire.specs.Checkers.{IsChecker, RayOn, LeafOn, ValueOn, LeafValueIs};
-ghost use Rattle.umpire.specs.FirstAnswers.{IsFirstAnswer, IsTheLeaf};
+ghost use Rattle.umpire.specs.Checkers.{IsChecker, RayOn, LeafOn, ValueOn, EmptyOn, StatedOn, open_bound, LeafValueIs, IsUnusable};
+ghost use Rattle.umpire.specs.FirstAnswers.{IsFirstAnswer, IsLeaf, IsTheLeaf};
 
 use crate::checker::{is_same, no, no_at_root};
 use um_bound::{bound_of, closes, value};
 use um_box::NodeBox;
 use um_deck::Deck;
-use um_model::{Answer, Leaf, Multipliers, Price, Reason, Verdict, What};
+use um_model::{Answer, AnswerKind, Leaf, Multipliers, Price, Reason, Verdict, What};
+use um_num::Frac;
 
 /// Multipliers are below this size.
 const MULTIPLIER_SIZE: u128 = 1 << 40;
@@ -25,85 +28,202 @@ pub fn on_tree(deck: &Deck, root: &NodeBox<'_>, answer: &Answer) -> Verdict
     requires tolerance { answer.now.tolerance ≡ pos 0 }
     ensures { RayOn deck.now answer.now result }
 {
-    let y = the_leaf(answer);
-    on_leaf(deck, root, answer, y)
+    let leaf = the_leaf(answer);
+    on_leaf(deck, root, answer, leaf)
 }
 
-/// The multipliers of the tree's one leaf.
-fn the_leaf(answer: &Answer) -> &Multipliers
+/// What became of the tree's one node.
+fn the_leaf(answer: &Answer) -> &What
     requires { IsFirstAnswer answer.now }
-    ensures { IsTheLeaf answer.now.tree result.now }
+    ensures leaf { IsTheLeaf answer.now.tree result.now }
+    ensures kind { IsLeaf result.now }
 {
     match answer.tree.nodes() {
-        [node] => match &node.what {
-            What::Bounded(y) => y,
-            _ => unreachable!(),
-        },
+        [node] => &node.what,
         _ => unreachable!(),
     }
 }
 
 /// The verdict on the leaf, its box being that of the deck.
-fn on_leaf(deck: &Deck, root: &NodeBox<'_>, answer: &Answer, y: &Multipliers) -> Verdict
+fn on_leaf(deck: &Deck, root: &NodeBox<'_>, answer: &Answer, leaf: &What) -> Verdict
     requires checker { IsChecker deck.now root.now }
-    requires first { IsFirstAnswer answer.now }
+    requires checkable { IsCheckable deck.now answer.now }
     requires tolerance { answer.now.tolerance ≡ pos 0 }
-    requires leaf { IsTheLeaf answer.now.tree y.now }
-    requires rows { HasRisingRows (length deck.now.rows) y.now.rows.items }
-    ensures { LeafOn deck.now answer.now y.now result }
+    requires leaf { IsTheLeaf answer.now.tree leaf.now }
+    requires kind { IsLeaf leaf.now }
+    ensures { LeafOn deck.now answer.now leaf.now result }
 {
-    if !are_multipliers_small(y) {
-        return no_at_root(Reason::Wide);
-    }
-    if y.y0 < 0 {
-        return no_at_root(Reason::Sign);
-    }
-    match value(deck, root, y) {
-        Leaf::Value(value) => on_value(deck, answer, y, value),
-        Leaf::EndlessRow(_) => no_at_root(Reason::Sign),
-        Leaf::EndlessColumn(_) => no_at_root(Reason::Sign),
+    match leaf {
+        What::Bounded(y) => on_bounded(deck, root, answer, y),
+        What::Empty(y) => on_empty(deck, root, answer, y),
+        What::OpenLeaf(y) => on_open(deck, root, answer, y),
+        What::Split(_) | What::Void(_) => unreachable!(),
     }
 }
 
-/// The verdict where the leaf has a value.
-fn on_value(deck: &Deck, answer: &Answer, y: &Multipliers, value: i128) -> Verdict
-    requires first { IsFirstAnswer answer.now }
+/// The verdict on a bounded leaf.
+fn on_bounded(deck: &Deck, root: &NodeBox<'_>, answer: &Answer, y: &Multipliers) -> Verdict
+    requires checker { IsChecker deck.now root.now }
     requires tolerance { answer.now.tolerance ≡ pos 0 }
-    requires value { LeafValueIs deck.now answer.now y.now value }
+    requires leaf { IsTheLeaf answer.now.tree (What.Bounded y.now) }
+    requires rows { HasRisingRows (length deck.now.rows) y.now.rows.items }
+    ensures { LeafOn deck.now answer.now (What.Bounded y.now) result }
+{
+    match usable_value(deck, root, y) {
+        Ok(value) => on_value(deck, answer, y, value),
+        Err(reason) => no_at_root(reason),
+    }
+}
+
+/// The verdict on a bounded leaf that has a value.
+fn on_value(deck: &Deck, answer: &Answer, y: &Multipliers, value: i128) -> Verdict
+    requires tolerance { answer.now.tolerance ≡ pos 0 }
+    requires leaf { IsTheLeaf answer.now.tree (What.Bounded y.now) }
+    requires value { LeafValueIs deck.now y.now value }
     ensures { ValueOn deck.now answer.now y.now result }
 {
     if !is_closed(deck, answer, y, value) {
         return no_at_root(Reason::Bound);
     }
-    if !has_bound(deck, answer, y, value) {
+    on_bound(answer, Some(bound_of(deck, y.y0, value)))
+}
+
+/// Whether the multipliers close the box at the answer's objective.
+fn is_closed(deck: &Deck, answer: &Answer, y: &Multipliers, value: i128) -> bool
+    requires tolerance { answer.now.tolerance ≡ pos 0 }
+    requires value { LeafValueIs deck.now y.now value }
+    ensures { IsTrue result ↔ BoundedHolds deck.now answer.now (root deck.now) y.now }
+{
+    match (&answer.point, &answer.objective) {
+        (Some(_), Some(objective)) => {
+            is_objective_in(y) && closes(deck, y.y0, value, objective, answer.tolerance)
+        }
+        _ => false,
+    }
+}
+
+/// The verdict on an empty leaf.
+fn on_empty(deck: &Deck, root: &NodeBox<'_>, answer: &Answer, y: &Multipliers) -> Verdict
+    requires checker { IsChecker deck.now root.now }
+    requires leaf { IsTheLeaf answer.now.tree (What.Empty y.now) }
+    requires rows { HasRisingRows (length deck.now.rows) y.now.rows.items }
+    ensures { LeafOn deck.now answer.now (What.Empty y.now) result }
+{
+    match usable_value(deck, root, y) {
+        Ok(value) => on_empty_value(deck, answer, y, value),
+        Err(reason) => no_at_root(reason),
+    }
+}
+
+/// The verdict on an empty leaf that has a value. It adds no bound.
+fn on_empty_value(deck: &Deck, answer: &Answer, y: &Multipliers, value: i128) -> Verdict
+    requires leaf { IsTheLeaf answer.now.tree (What.Empty y.now) }
+    requires value { LeafValueIs deck.now y.now value }
+    ensures { EmptyOn deck.now answer.now y.now result }
+{
+    if !empties(deck, y, value) {
+        return no_at_root(Reason::NotEmpty);
+    }
+    on_bound(answer, None)
+}
+
+/// Whether the multipliers show that the box has no feasible point.
+fn empties(deck: &Deck, y: &Multipliers, value: i128) -> bool
+    requires { LeafValueIs deck.now y.now value }
+    ensures { IsTrue result ↔ Empties deck.now (root deck.now) (plain_multipliers y.now) }
+{
+    y.y0 == 0 && value > 0
+}
+
+/// The verdict on an open leaf.
+fn on_open(deck: &Deck, root: &NodeBox<'_>, answer: &Answer, y: &Multipliers) -> Verdict
+    requires checker { IsChecker deck.now root.now }
+    requires leaf { IsTheLeaf answer.now.tree (What.OpenLeaf y.now) }
+    requires rows { HasRisingRows (length deck.now.rows) y.now.rows.items }
+    ensures { LeafOn deck.now answer.now (What.OpenLeaf y.now) result }
+{
+    if !is_stopped(answer.kind) {
+        return no_at_root(Reason::OpenLeaf);
+    }
+    if !are_multipliers_small(y) {
+        return no_at_root(Reason::Wide);
+    }
+    if !is_objective_in(y) {
+        return no_at_root(Reason::Sign);
+    }
+    on_bound(answer, open_bound(deck, root, y))
+}
+
+/// Whether the search stopped early, so that leaves may be open.
+fn is_stopped(kind: AnswerKind) -> bool
+    ensures { IsTrue result ↔ IsStopped kind }
+{
+    match kind {
+        AnswerKind::Limit | AnswerKind::Overflow => true,
+        AnswerKind::Optimal | AnswerKind::Infeasible | AnswerKind::Unbounded => false,
+    }
+}
+
+/// The bound of an open leaf; none where its value is endless.
+fn open_bound(deck: &Deck, root: &NodeBox<'_>, y: &Multipliers) -> Option<Frac>
+    requires checker { IsChecker deck.now root.now }
+    requires rows { HasRisingRows (length deck.now.rows) y.now.rows.items }
+    requires small { IsSmallMultipliers y.now }
+    requires positive { pos 0 <ℤ y.now.y0 }
+    ensures { result ≡ open_bound deck.now y.now }
+{
+    match value(deck, root, y) {
+        Leaf::Value(value) => Some(bound_of(deck, y.y0, value)),
+        Leaf::EndlessRow(_) => None,
+        Leaf::EndlessColumn(_) => None,
+    }
+}
+
+/// The verdict where the leaf holds and has this bound.
+fn on_bound(answer: &Answer, bound: Option<Frac>) -> Verdict
+    ensures { StatedOn answer.now bound result }
+{
+    if !is_stated(answer, bound) {
         return no(Reason::BoundWord);
     }
     Verdict::Yes
 }
 
-/// Whether the multipliers close the box at the answer's objective.
-fn is_closed(deck: &Deck, answer: &Answer, y: &Multipliers, value: i128) -> bool
-    requires first { IsFirstAnswer answer.now }
-    requires tolerance { answer.now.tolerance ≡ pos 0 }
-    requires value { LeafValueIs deck.now answer.now y.now value }
-    ensures { IsTrue result ↔ BoundedHolds deck.now answer.now (root deck.now) y.now }
+/// Whether the answer states this bound.
+fn is_stated(answer: &Answer, bound: Option<Frac>) -> bool
+    ensures { IsTrue result ↔ (answer.now.bound ≡ bound) }
 {
-    match &answer.objective {
-        Some(objective) if y.y0 > 0 => closes(deck, y.y0, value, objective, answer.tolerance),
+    match (&answer.bound, bound) {
+        (Some(stated), Some(bound)) => is_same(stated, &bound),
+        (None, None) => true,
         _ => false,
     }
 }
 
-/// Whether the answer's bound is that of its leaf.
-fn has_bound(deck: &Deck, answer: &Answer, y: &Multipliers, value: i128) -> bool
-    requires value { LeafValueIs deck.now answer.now y.now value }
-    requires positive { pos 0 <ℤ y.now.y0 }
-    ensures { IsTrue result ↔ BoundHolds deck.now answer.now }
+/// The value of the leaf, where its multipliers may be used, and else the reason against them.
+fn usable_value(deck: &Deck, root: &NodeBox<'_>, y: &Multipliers) -> Result<i128, Reason>
+    requires checker { IsChecker deck.now root.now }
+    requires rows { HasRisingRows (length deck.now.rows) y.now.rows.items }
+    ensures { MatchResult result (LeafValueIs deck.now y.now) (IsUnusable deck.now y.now) }
 {
-    match &answer.bound {
-        Some(bound) => is_same(&bound_of(deck, y.y0, value), bound),
-        None => false,
+    if !are_multipliers_small(y) {
+        return Err(Reason::Wide);
     }
+    if y.y0 < 0 {
+        return Err(Reason::Sign);
+    }
+    match value(deck, root, y) {
+        Leaf::Value(value) => Ok(value),
+        Leaf::EndlessRow(_) => Err(Reason::Sign),
+        Leaf::EndlessColumn(_) => Err(Reason::Sign),
+    }
+}
+
+/// Whether the objective has a multiplier above 0.
+fn is_objective_in(y: &Multipliers) -> bool
+    ensures { IsTrue result ↔ (pos 0 <ℤ y.now.y0) }
+{
+    y.y0 >= 1
 }
 
 fn are_multipliers_small(y: &Multipliers) -> bool

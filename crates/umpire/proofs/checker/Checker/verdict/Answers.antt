@@ -2,7 +2,7 @@ use Rattle.std.proofs.Common.{◌≡◌, ap, inl, inr, subst, pos, arith, w64, o
 use Rattle.std.proofs.lemmas.Int.{ints}
 use Rattle.um_model.specs.Accepted.{IsVerdict}
 use Rattle.um_model.specs.Values.{DeckValue}
-use Rattle.umpire.proofs.OneLeaf.{fields_go, tolerance_is}
+use Rattle.umpire.proofs.OneLeaf.{tolerance_is}
 use Rattle.umpire.proofs.checker.Checker.verdict.Goals as goal
 
 pub returns-then-answer-ne0-clause-verdict : goal.returns-then-answer-ne0-clause-verdict
@@ -14,4 +14,4 @@ pub returns-clause-verdict : goal.returns-clause-verdict
 returns-clause-verdict c =
     let zero_ : c.args.answer.now.tolerance ≡ pos 0 = omega (arith, ints, c.if-answer-ne0.false) in
     subst (λ (d : DeckValue). IsVerdict d c.args.answer.now c.on_numbers.result) c.self.view_is
-    (inl (tolerance_is c.self.inside.deck.now c.args.answer.now.tolerance c.self.invariant.plain.arcs zero_, inl (fields_go c.args.answer.now c.requires.first, c.on_numbers.ensures)))
+    (inl (tolerance_is c.self.inside.deck.now c.args.answer.now.tolerance c.self.invariant.plain.arcs zero_, inl (c.requires.first.fields, c.on_numbers.ensures)))

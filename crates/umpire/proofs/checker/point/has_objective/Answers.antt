@@ -1,4 +1,4 @@
-use Rattle.std.proofs.Common.{rules, ◌≡◌, ◌∙◌, sym, pos, ◌≤ℤ◌}
+use Rattle.std.proofs.Common.{rules, ◌∙◌, sym, pos, ◌≤ℤ◌}
 use Rattle.umpire.proofs.OneLeaf.{objective_test}
 use Rattle.umpire.proofs.checker.point.has_objective.Goals as goal
 
