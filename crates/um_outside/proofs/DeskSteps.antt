@@ -12,6 +12,7 @@ same_state a b c s t = record {
   made = t.made ∙ s.made;
   left = t.left ∙ s.left;
   piece = t.piece ∙ s.piece;
+  asked = t.asked ∙ s.asked;
 }
 
 pub same_desk : (a b c : MemoryDesk) → SameDesk a b → SameDesk b c → SameDesk a c

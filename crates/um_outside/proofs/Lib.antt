@@ -5,3 +5,5 @@ pub mod WritePieces
 pub mod StoredFiles
 pub mod OpenFileSteps
 pub mod DeskSteps
+pub mod NotedFiles
+pub mod AskedInOrder

@@ -1,7 +1,7 @@
 -- Pieces that a desk gives one after another.
-use Rattle.std.proofs.Common.{◌≡◌, ℕ, ◌<◌, ◌≤◌, List, [], ◌++◌, take, length, length-append, length-take, Option, Some, None, option_map, IfSome, IsSomeAnd, arith, ap, sym, ◌∙◌, append-nil, refl, subst}
-use Rattle.um_outside.specs.Scenes.{Scene, Files, Mode, Reading}
-use Rattle.um_outside.specs.Desks.{Opened, Gave, WentWell, IsFront}
+use Rattle.std.proofs.Common.{◌≡◌, ℕ, ◌<◌, ◌≤◌, List, [], ◌∷◌, ◌++◌, take, length, length-append, length-take, Option, Some, None, option_map, IfSome, IsSomeAnd, arith, ap, sym, ◌∙◌, append-nil, refl, subst}
+use Rattle.um_outside.specs.Scenes.{Scene, Files, Mode, Reading, to_open}
+use Rattle.um_outside.specs.Desks.{Opened, Gave, WentWell, IsFront, Asks}
 use Rattle.um_outside.proofs.Pieces.{set_then_added}
 
 -- The file of this name is open, and these bytes of it were given.
@@ -11,9 +11,10 @@ pub record ReadSoFar (name bytes : List ℕ) (s t : Scene) : Type 0 where
   pub given : t.given ≡ option_map (λ _. bytes) s.given
   pub put : t.put ≡ s.put
   pub holds : t.holds ≡ s.holds
+  pub asked : Asks (to_open name ∷ []) s.asked t.asked
 
 pub read_none : (name : List ℕ) (s t : Scene) → Opened name s t → ReadSoFar name [] s t
-read_none name s t a = record { well = a.well; mode = a.mode; given = a.given; put = a.put; holds = a.holds }
+read_none name s t a = record { well = a.well; mode = a.mode; given = a.given; put = a.put; holds = a.holds; asked = a.asked }
 
 pub read_more : (name bytes more : List ℕ) (s t u : Scene) → ReadSoFar name bytes s t → Gave more t u → ReadSoFar name (bytes ++ more) s u
 read_more name bytes more s t u a b = record {
@@ -22,6 +23,7 @@ read_more name bytes more s t u a b = record {
   given = set_then_added s.given t.given u.given bytes more a.given b.given;
   put = b.put ∙ a.put;
   holds = b.holds ∙ a.holds;
+  asked = rw b.asked a.asked;
 }
 
 -- what is known of the bytes given and the open file, at the file of this name

@@ -1,8 +1,8 @@
 -- Pieces that a desk takes one after another.
-use Rattle.std.proofs.Common.{◌≡◌, ℕ, ◌+◌, List, [], take, drop, Option, Some, None, option_map, IfSome, IsSomeAnd, arith, ap, ◌∙◌, subst}
+use Rattle.std.proofs.Common.{◌≡◌, ℕ, ◌+◌, List, [], ◌∷◌, take, drop, Option, Some, None, option_map, IfSome, IsSomeAnd, arith, ap, ◌∙◌, subst}
 use Rattle.std.proofs.Math.Seq.{take-add}
-use Rattle.um_outside.specs.Scenes.{Scene, Files, Mode, Writing}
-use Rattle.um_outside.specs.Desks.{Created, Took, WentWell, ChangesOnly, ChangesWritten, ClosedWell}
+use Rattle.um_outside.specs.Scenes.{Scene, Files, Mode, Writing, to_create}
+use Rattle.um_outside.specs.Desks.{Created, Took, WentWell, ChangesOnly, ChangesWritten, ClosedWell, Asks}
 use Rattle.um_outside.proofs.Pieces.{set_then_added, is_some_of}
 
 -- The file of this name is open, and these bytes of it were put.
@@ -12,9 +12,10 @@ pub record WrittenSoFar (name bytes : List ℕ) (s t : Scene) : Type 0 where
   pub given : t.given ≡ s.given
   pub put : t.put ≡ option_map (λ _. bytes) s.put
   pub holds : ChangesOnly name s.holds t.holds
+  pub asked : Asks (to_create name ∷ []) s.asked t.asked
 
 pub written_none : (name : List ℕ) (s t : Scene) → Created name s t → WrittenSoFar name [] s t
-written_none name s t a = record { well = a.well; mode = a.mode; given = a.given; put = a.put; holds = a.holds }
+written_none name s t a = record { well = a.well; mode = a.mode; given = a.given; put = a.put; holds = a.holds; asked = a.asked }
 
 changes_more : (name : List ℕ) (before between after : Option Files) → ChangesOnly name before between → ChangesWritten (Writing (option_map (λ _. name) before)) between after → ChangesOnly name before after
 changes_more name None between after a b = b ∙ a
@@ -34,6 +35,7 @@ written_more name bytes at n s t u a b = record {
   given = b.given ∙ a.given;
   put = rw (take-add at n bytes) (set_then_added s.put t.put u.put (take at bytes) (take n (drop at bytes)) a.put b.put);
   holds = changes_on name (take at bytes) s t u.holds a b.holds;
+  asked = rw b.asked a.asked;
 }
 
 of_the_file : (name bytes : List ℕ) (p0 p : Option (List ℕ)) (h0 h : Option Files) (mode : Mode) → mode ≡ Writing (option_map (λ _. name) h0) → p ≡ option_map (λ _. bytes) p0 → ChangesOnly name h0 h → IfSome p (λ put. IfSome h (λ files. (name : List ℕ) → mode ≡ Writing (Some name) → IsSomeAnd (files name) (λ file. file ≡ put))) → IfSome p (λ _. IfSome h (λ files. files name ≡ Some bytes))

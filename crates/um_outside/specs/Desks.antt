@@ -1,7 +1,7 @@
 -- What each call on a desk does: the scene before, the answer, the scene after.
-use Rattle.std.specs.Prelude.{◌≡◌, ◌≢◌, ℕ, ◌<◌, ◌≤◌, true, List, [], ◌++◌, take, length, Option, Some, None, option_map, Result, MatchResult, IfSome, IsSomeAnd}
+use Rattle.std.specs.Prelude.{◌≡◌, ◌≢◌, ℕ, ◌<◌, ◌≤◌, true, List, [], ◌∷◌, ◌++◌, take, length, Option, Some, None, option_map, Result, MatchResult, IfSome, IsSomeAnd}
 use Rattle.um_outside.specs.declared.Failed.{Failed}
-use Rattle.um_outside.specs.Scenes.{Scene, Mode, Idle, Reading, Writing, Files}
+use Rattle.um_outside.specs.Scenes.{Scene, Mode, Idle, Reading, Writing, Files, Asked, to_open, to_create}
 
 -- The call went well: the count has not fallen, and the flag is as it was.
 pub record WentWell (s t : Scene) : Type 0 where
@@ -12,6 +12,10 @@ pub record WentWell (s t : Scene) : Type 0 where
 pub record Faulted (s t : Scene) : Type 0 where
   pub faults : s.faults < t.faults
   pub stopped : t.stopped ≡ true
+
+-- These files were asked for, in this order, behind those of before. A desk that ceases to tell of them says nothing.
+abbrev pub Asks : List Asked → Option (List Asked) → Option (List Asked) → Type 0
+Asks files before after = IfSome after (λ all. IsSomeAnd before (λ some. all ≡ some ++ files))
 
 -- The first list is the front of the second.
 abbrev pub IsFront : List ℕ → List ℕ → Type 0
@@ -47,6 +51,7 @@ pub record FailedStill (s t : Scene) : Type 0 where
   pub given : t.given ≡ s.given
   pub put : t.put ≡ s.put
   pub holds : t.holds ≡ s.holds
+  pub asked : t.asked ≡ s.asked
 
 -- A file was opened.
 pub record Opened (name : List ℕ) (s t : Scene) : Type 0 where
@@ -55,9 +60,19 @@ pub record Opened (name : List ℕ) (s t : Scene) : Type 0 where
   pub given : t.given ≡ option_map (λ _. []) s.given
   pub put : t.put ≡ s.put
   pub holds : t.holds ≡ s.holds
+  pub asked : Asks (to_open name ∷ []) s.asked t.asked
+
+-- No file was opened, though one was asked for.
+pub record NotOpened (name : List ℕ) (s t : Scene) : Type 0 where
+  pub fault : Faulted s t
+  pub mode : t.mode ≡ s.mode
+  pub given : t.given ≡ s.given
+  pub put : t.put ≡ s.put
+  pub holds : t.holds ≡ s.holds
+  pub asked : Asks (to_open name ∷ []) s.asked t.asked
 
 abbrev pub Opens : List ℕ → Scene → {T : Type 0} → Result T Failed → Scene → Type 0
-Opens name s r t = MatchResult r (λ _. Opened name s t) (λ _. FailedStill s t)
+Opens name s r t = MatchResult r (λ _. Opened name s t) (λ _. NotOpened name s t)
 
 -- These bytes were given. They go on in the file; where there are none, the file is at its end.
 pub record Gave (bytes : List ℕ) (s t : Scene) : Type 0 where
@@ -68,6 +83,7 @@ pub record Gave (bytes : List ℕ) (s t : Scene) : Type 0 where
   pub end : bytes ≡ [] → GivenAndFile t (λ given file. given ≡ file)
   pub put : t.put ≡ s.put
   pub holds : t.holds ≡ s.holds
+  pub asked : t.asked ≡ s.asked
 
 abbrev pub Reads : List ℕ → Scene → Result ℕ Failed → Scene → Type 0
 Reads into s r t = MatchResult r (λ n. (n ≤ length into) × Gave (take n into) s t) (λ _. FailedStill s t)
@@ -80,6 +96,7 @@ pub record Created (name : List ℕ) (s t : Scene) : Type 0 where
   pub put : t.put ≡ option_map (λ _. []) s.put
   pub holds : ChangesOnly name s.holds t.holds
   pub empty : IfSome t.holds (λ files. files name ≡ Some [])
+  pub asked : Asks (to_create name ∷ []) s.asked t.asked
 
 -- No file was made; the one of this name may be lost.
 pub record NotCreated (name : List ℕ) (s t : Scene) : Type 0 where
@@ -88,6 +105,7 @@ pub record NotCreated (name : List ℕ) (s t : Scene) : Type 0 where
   pub given : t.given ≡ s.given
   pub put : t.put ≡ s.put
   pub holds : ChangesOnly name s.holds t.holds
+  pub asked : Asks (to_create name ∷ []) s.asked t.asked
 
 abbrev pub Creates : List ℕ → Scene → {T : Type 0} → Result T Failed → Scene → Type 0
 Creates name s r t = MatchResult r (λ _. Created name s t) (λ _. NotCreated name s t)
@@ -99,6 +117,7 @@ pub record Took (bytes : List ℕ) (s t : Scene) : Type 0 where
   pub given : t.given ≡ s.given
   pub put : t.put ≡ option_map (λ put. put ++ bytes) s.put
   pub holds : ChangesWritten s.mode s.holds t.holds
+  pub asked : t.asked ≡ s.asked
 
 -- No byte was taken; the file has a front of what was put.
 pub record NotTaken (s t : Scene) : Type 0 where
@@ -108,6 +127,7 @@ pub record NotTaken (s t : Scene) : Type 0 where
   pub put : t.put ≡ s.put
   pub holds : ChangesWritten s.mode s.holds t.holds
   pub front : PutAndFile s t (λ put file. IsFront file put)
+  pub asked : t.asked ≡ s.asked
 
 abbrev pub Writes : List ℕ → Scene → Result ℕ Failed → Scene → Type 0
 Writes from s r t = MatchResult r (λ n. (1 ≤ n) × (n ≤ length from) × Took (take n from) s t) (λ _. NotTaken s t)
@@ -118,6 +138,7 @@ pub record Closed (s t : Scene) : Type 0 where
   pub given : t.given ≡ s.given
   pub put : t.put ≡ s.put
   pub holds : ChangesWritten s.mode s.holds t.holds
+  pub asked : t.asked ≡ s.asked
 
 -- The file was closed well: one that was written holds what was put.
 pub record ClosedWell (s t : Scene) : Type 0 where

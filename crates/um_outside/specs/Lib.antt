@@ -7,4 +7,5 @@ pub mod Numbered
 pub mod MemorySinks
 pub mod Stores
 pub mod OpenFiles
+pub mod AskedFiles
 pub mod MemoryDesks

@@ -18,6 +18,7 @@ scene_of desk = record {
   given = Some desk.given.items;
   put = Some desk.put.items;
   holds = Some (file_in desk);
+  asked = desk.notes.asked;
   faults = cond desk.stopped 1 0;
   stopped = desk.stopped;
 }
@@ -46,7 +47,7 @@ pub record CallMade (old new : MemoryDesk) : Type 0 where
   pub made : new.calls.made ≡ next_number old.calls.made
   pub settings : SameSettings old new
 
--- All but the files, the rooms and the calls that fail is as it was.
+-- All but the files, the rooms, the room for notes and the calls that fail is as it was.
 pub record SameState (old new : MemoryDesk) : Type 0 where
   pub mode : (scene_of new).mode ≡ (scene_of old).mode
   pub given : new.given.items ≡ old.given.items
@@ -55,6 +56,7 @@ pub record SameState (old new : MemoryDesk) : Type 0 where
   pub made : new.calls.made ≡ old.calls.made
   pub left : room_left new ≡ room_left old
   pub piece : new.piece ≡ old.piece
+  pub asked : new.notes.asked ≡ old.notes.asked
 
 -- All is as it was, but for memory in reserve.
 pub record SameDesk (old new : MemoryDesk) : Type 0 where
@@ -93,5 +95,6 @@ pub record IsFresh (piece : ℕ) (desk : MemoryDesk) : Type 0 where
   pub piece_is : desk.piece ≡ piece
   pub made : desk.calls.made ≡ 0
   pub failing : desk.calls.failing.items ≡ []
+  pub notes : desk.notes ≡ record { asked = Some []; files = 0; bytes = 0 }
   pub files : (name : List ℕ) → file_in desk name ≡ None
   pub rooms : (name : List ℕ) → room_for desk name ≡ None

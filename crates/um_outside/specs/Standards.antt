@@ -1,4 +1,4 @@
--- What the desk over the system's files tells: neither bytes nor files.
+-- What the desk over the system's files tells: neither bytes nor files, nor which of them were asked for.
 use Rattle.std.specs.Prelude.{None, Bool, cond}
 use Rattle.um_outside.specs.Scenes.{Scene, Mode, Idle, Reading, Writing}
 use Rattle.um_outside.specs.declared.standard.OpenFile.{OpenFile}
@@ -10,4 +10,4 @@ mode_of (opened.Read file) = Reading None
 mode_of (opened.Written file) = Writing None
 
 abbrev pub scene_from : {F : Type 0} → OpenFile F → Bool → Scene
-scene_from file stopped = record { mode = mode_of file; given = None; put = None; holds = None; faults = cond stopped 1 0; stopped = stopped }
+scene_from file stopped = record { mode = mode_of file; given = None; put = None; holds = None; asked = None; faults = cond stopped 1 0; stopped = stopped }

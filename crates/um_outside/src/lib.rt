@@ -3,23 +3,26 @@
 //! A program that reads and writes through a [`Desk`] and a [`Sink`] can be proved without the
 //! system: their contracts say what each call does to what they tell of themselves. Two of each
 //! are here, one in memory that tells everything, for tests, and one over std that tells nothing.
+//! A desk also tells which files were asked for, in order, and may cease to tell it.
 //!
 //! A fault sets a flag that nothing clears, and every call asks that the flag is not set: after a
 //! fault nothing more is called. A call that fails has raised the count of faults.
 #![tactic(auto)]
 
 mod append;
+mod asked;
 mod calls;
-pub mod desk;
-pub mod memory_desk;
-pub mod memory_sink;
-pub mod sink;
-pub mod standard;
+mod desk;
+mod memory_desk;
+mod memory_sink;
+mod sink;
+mod standard;
 mod stored;
 #[cfg(test)]
 mod tests;
-pub mod whole_file;
+mod whole_file;
 
+pub use asked::Access;
 pub use desk::Desk;
 pub use memory_desk::MemoryDesk;
 pub use memory_sink::MemorySink;

@@ -1,6 +1,6 @@
 //! A desk in memory, for tests.
 
-ghost use Rattle.std.specs.Prelude.{◌≡◌, ◌<◌, ◌≤◌, ◌-◌, ◌+◌, ◌||◌, Some, None, false, take, ◌++◌, length, min, max, nat_eq, is_err, is_none, slice_get, option_copied, option_map, OnOk, OnErr, IfOk, IfSome};
+ghost use Rattle.std.specs.Prelude.{◌≡◌, ◌<◌, ◌≤◌, ◌-◌, ◌+◌, ◌||◌, Some, None, false, take, ◌++◌, length, min, max, nat_eq, is_err, is_none, slice_get, option_copied, option_map, option_and_then, OnOk, OnErr, IfOk, IfSome};
 ghost use Rattle.um_outside.specs.Scenes.{Idle, IsReading, IsWriting, IsOpen};
 ghost use Rattle.um_outside.specs.Desks.{Opens, Reads, Creates, Writes, Closes};
 ghost use Rattle.um_outside.specs.Stores.{greatest_capacity, capacity_of, place_of, files_in, room_in};
@@ -9,6 +9,7 @@ ghost use Rattle.um_outside.specs.declared.stored.Stored.{Stored};
 ghost use Rattle.std.proofs.Props.{props};
 
 use crate::append::append_reserved;
+use crate::asked::{Access, Notes};
 use crate::calls::Calls;
 use crate::stored::Stored;
 use crate::{Desk, Failed};
@@ -25,13 +26,15 @@ pub enum Doing {
 
 /// Files in memory. The desk gives and takes as many bytes as it can, at most `piece` per call.
 ///
-/// `put_file` and `room` take all the memory that later calls of the desk need.
+/// `put_file` and `room` take all the memory that later calls of the desk need. It tells which files
+/// were asked for as long as `tell_asked` made room for them.
 #[derive(Drop)]
 pub struct MemoryDesk {
     alloc: Global,
     files: List<Stored>,
     piece: usize,
     calls: Calls,
+    notes: Notes,
     /// The bytes given since the last open, with room for the greatest file.
     given: List<u8>,
     /// The bytes taken since the last create, with room for the greatest file.
@@ -129,6 +132,7 @@ impl MemoryDesk {
             files: List::new(alloc),
             piece,
             calls: Calls::new(alloc),
+            notes: Notes::new(alloc),
             given: List::new(alloc),
             put: List::new(alloc),
             doing: Doing::Idle,
@@ -217,6 +221,22 @@ impl MemoryDesk {
         self.reserve(bytes)?;
         set_room(self.files.at_mut(place), bytes)
     }
+
+    /// Makes room to tell of this many more files that are asked for, whose names have at most this
+    /// many bytes together. Once a file is asked for without room, none is told any more.
+    pub fn tell_asked(&mut self, files: usize, bytes: usize) -> Result<(), Memory>
+        ensures same { SameDesk self.old self.new }
+        ensures room { OnOk result (self.new.notes ≡ record { asked = self.old.notes.asked; files = max self.old.notes.files files; bytes = max self.old.notes.bytes bytes }) }
+    {
+        self.notes.reserve(files, bytes)
+    }
+
+    /// File `i` of those asked for, from 0, and what for. `None` also where they are not told.
+    pub fn asked(&self, i: usize) -> Option<(Access, &[u8])>
+        ensures { option_map (λ file. record { access = file.0; name = file.1.now }) result ≡ option_and_then (λ asked. slice_get asked i) (scene_of self.now).asked }
+    {
+        self.notes.get(i)
+    }
 }
 
 impl Desk for MemoryDesk {
@@ -229,6 +249,8 @@ impl Desk for MemoryDesk {
       room_left,
       CallMade,
     };
+    ghost use Rattle.um_outside.specs.Scenes.{to_open, to_create};
+    ghost use Rattle.um_outside.specs.AskedFiles.{noting};
 
     ghost scene = { scene_of };
 
@@ -239,7 +261,9 @@ impl Desk for MemoryDesk {
         ensures failed { is_err result ≡ (fails_next self.old || is_none (file_in self.old name.now)) }
         ensures made { CallMade self.old self.new }
         ensures left { room_left self.new ≡ room_left self.old }
+        ensures noted { self.new.notes ≡ noting (to_open name.now) self.old.notes }
     {
+        self.notes.note(Access::Open, name);
         if self.calls.next() {
             self.stopped = true;
             return Err(Failed);
@@ -263,6 +287,7 @@ impl Desk for MemoryDesk {
         ensures count { IfOk result (λ n. n ≡ min (min (bytes_left self.old) (length into.old)) self.old.piece) }
         ensures made { CallMade self.old self.new }
         ensures left { room_left self.new ≡ room_left self.old }
+        ensures notes { self.new.notes ≡ self.old.notes }
     {
         if self.calls.next() {
             self.stopped = true;
@@ -282,7 +307,9 @@ impl Desk for MemoryDesk {
 
         // A creation that fails leaves all files as they were.
         ensures kept { OnErr result ((scene_of self.new).holds ≡ (scene_of self.old).holds) }
+        ensures noted { self.new.notes ≡ noting (to_create name.now) self.old.notes }
     {
+        self.notes.note(Access::Create, name);
         if self.calls.next() {
             self.stopped = true;
             return Err(Failed);
@@ -310,6 +337,7 @@ impl Desk for MemoryDesk {
         ensures count { IfOk result (λ n. n ≡ min (min (length from.now) self.old.piece) (room_left self.old)) }
         ensures made { CallMade self.old self.new }
         ensures left { IfOk result (λ n. room_left self.new ≡ room_left self.old - n) }
+        ensures notes { self.new.notes ≡ self.old.notes }
     {
         if self.calls.next() || self.left == 0 {
             self.stopped = true;
@@ -329,6 +357,7 @@ impl Desk for MemoryDesk {
         ensures failed { is_err result ≡ fails_next self.old }
         ensures made { CallMade self.old self.new }
         ensures left { room_left self.new ≡ room_left self.old }
+        ensures notes { self.new.notes ≡ self.old.notes }
     {
         self.doing = Doing::Idle;
         if self.calls.next() {

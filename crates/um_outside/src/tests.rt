@@ -5,7 +5,8 @@ ghost use Rattle.um_outside.specs.Scenes.{Idle};
 ghost use Rattle.um_outside.specs.MemoryDesks.{scene_of};
 
 use crate::{
-    Failed, FileDesk, FileFault, MemoryDesk, MemorySink, StdSink, read_file, write_all, write_file,
+    Access, Failed, FileDesk, FileFault, MemoryDesk, MemorySink, StdSink, read_file, write_all,
+    write_file,
 };
 use std::alloc::Global;
 use std::fs;
@@ -170,5 +171,36 @@ fn system(rt: HostRuntime) -> Result<(), Fail> {
     let mut out = StdSink::new(&rt);
     let printed = write_all(&mut out, b"printed\n");
     assert_eq!(&rt; printed, Ok(()));
+    Ok(())
+}
+
+/// What file `i` was asked for, where its name is told as this one.
+fn asked_as(desk: &MemoryDesk, i: usize, name: &str) -> Option<Access> {
+    let (access, told) = desk.asked(i)?;
+    (told == name.as_bytes()).then_some(access)
+}
+
+#[test]
+fn asked_files(rt: HostRuntime) -> Result<(), Fail> {
+    let mut desk = desk_of(rt.alloc(), 16, 20, 0)?;
+    desk.tell_asked(2, 8)?;
+    read_file(rt.alloc(), &mut desk, "deck", 20)?;
+    let written = write_file(&mut desk, "tree", TEXT);
+    assert_eq!(&rt; written, Ok(()));
+    assert_eq!(&rt; asked_as(&desk, 0, "deck"), Some(Access::Open));
+    assert_eq!(&rt; asked_as(&desk, 1, "tree"), Some(Access::Create));
+    assert!(&rt; desk.asked(2).is_none());
+
+    // One that is not there is told too. Where there is no room for a name, none is told any more.
+    let mut desk = desk_of(rt.alloc(), 16, 20, 0)?;
+    desk.tell_asked(2, 5)?;
+    let missing = read_file(rt.alloc(), &mut desk, "none", 20).err();
+    assert_eq!(&rt; missing, Some(FileFault::Fault));
+    assert_eq!(&rt; asked_as(&desk, 0, "none"), Some(Access::Open));
+    let mut desk = desk_of(rt.alloc(), 16, 20, 0)?;
+    desk.tell_asked(2, 5)?;
+    read_file(rt.alloc(), &mut desk, "deck", 20)?;
+    read_file(rt.alloc(), &mut desk, "empty", 20)?;
+    assert!(&rt; desk.asked(0).is_none());
     Ok(())
 }

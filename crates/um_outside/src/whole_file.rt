@@ -61,10 +61,10 @@ pub fn read_file<D: Desk>(
     requires going { (D.scene desk.old).stopped ≡ false }
     ensures ok { IfOk result (λ bytes. ReadWhole name.now bytes.items (D.scene desk.old) (D.scene desk.new)) }
     ensures size { IfOk result (λ bytes. length bytes.items ≤ most) }
-    ensures fault { result ≡ Err FileFault.Fault → ReadFaulted (D.scene desk.old) (D.scene desk.new) }
+    ensures fault { result ≡ Err FileFault.Fault → ReadFaulted name.now (D.scene desk.old) (D.scene desk.new) }
     ensures fault_within { result ≡ Err FileFault.Fault → GivenWithin most (D.scene desk.old) (D.scene desk.new) }
     ensures too_long { result ≡ Err FileFault.TooLong → ReadTooMuch name.now most (D.scene desk.old) (D.scene desk.new) }
-    ensures memory { result ≡ Err FileFault.Memory → ReadGivenUp (D.scene desk.old) (D.scene desk.new) }
+    ensures memory { result ≡ Err FileFault.Memory → ReadGivenUp name.now (D.scene desk.old) (D.scene desk.new) }
 {
     desk.open_file(name)?;
     let mut bytes = List::new(alloc);

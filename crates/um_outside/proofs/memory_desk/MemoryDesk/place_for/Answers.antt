@@ -40,7 +40,7 @@ returns-clause-same c =
     let same : c.reserve.new.self.items ≡ d.files.items = ap (λ (l : Listed Stored). l.items) c.in_ok-reserve.ensures.ok in
     let e = pushed_on d.files.items c.reserve.new.self.items c.push_reserved.new.self.items _ (ap (λ (l : Listed Stored). l.items) c.push_reserved.ensures) same in
     record {
-      state = record { mode = push_mode d.files.items c.push_reserved.new.self.items _ d.current d.doing e d.current_in; given = refl; put = refl; stopped = refl; made = refl; left = refl; piece = refl };
+      state = record { mode = push_mode d.files.items c.push_reserved.new.self.items _ d.current d.doing e d.current_in; given = refl; put = refl; stopped = refl; made = refl; left = refl; piece = refl; asked = refl };
       failing = refl;
       files = λ other. push_kept contents d.files.items c.push_reserved.new.self.items _ other e refl;
       rooms = λ other. push_kept (λ (f : Stored). f.room) d.files.items c.push_reserved.new.self.items _ other e refl;

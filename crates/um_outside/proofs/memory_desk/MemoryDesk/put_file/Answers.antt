@@ -81,7 +81,7 @@ returns-clause-ok c =
     let items : c.reserve.new.self.items ≡ c.in_ok-content.content.items = ap (λ (l : Listed ℕ). l.items) c.in_ok-reserve.ensures.ok in
     let spare : c.reserve.new.self.spare ≡ max c.in_ok-content.content.spare c.saturating_sub.result = ap (λ (l : Listed ℕ). l.spare) c.in_ok-reserve.ensures.ok in
     file_set name c.args.bytes.now c.args.self.now e _ same (record {
-      state = record { mode = mode_idle e.doing _ _ idle; given = refl; put = refl; stopped = refl; made = refl; left = refl; piece = refl };
+      state = record { mode = mode_idle e.doing _ _ idle; given = refl; put = refl; stopped = refl; made = refl; left = refl; piece = refl; asked = refl };
       failing = refl;
       file = file_at _ name place _ (place_of-set e.files.items place file _ name at refl ∙ found) (slice_get-set_same e.files.items place file _ at) refl ∙ ap Some (items ∙ before_items);
       others = other_files e.files.items name place file _ found at refl;

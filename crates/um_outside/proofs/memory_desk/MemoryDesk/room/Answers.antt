@@ -52,7 +52,7 @@ returns-clause-ok c =
     let changed = c.set_room.new.file in
     let same = same_desk c.args.self.now c.place_for.new.self e c.place_for.ensures.same c.reserve.ensures.same in
     on_ok c.set_room.result _ _ (λ set. room_set name c.args.bytes c.args.self.now e _ same (record {
-      state = record { mode = ap (λ (n : Option (List ℕ)). mode_from e.doing n) (kept_name e.files.items place file changed e.current at c.set_room.ensures.name); given = refl; put = refl; stopped = refl; made = refl; left = refl; piece = refl };
+      state = record { mode = ap (λ (n : Option (List ℕ)). mode_from e.doing n) (kept_name e.files.items place file changed e.current at c.set_room.ensures.name); given = refl; put = refl; stopped = refl; made = refl; left = refl; piece = refl; asked = refl };
       failing = refl;
       files = λ other. kept_in contents e.files.items place file changed other at c.set_room.ensures.name (contents_same changed file c.set_room.ensures.exists c.set_room.ensures.items);
       room = ap (λ (o : Option Stored). option_and_then (λ (f : Stored). f.room) o) (stored_in-set_same e.files.items name place file changed found at c.set_room.ensures.name) ∙ set;
@@ -70,7 +70,7 @@ returns-clause-err c =
     let changed = c.set_room.new.file in
     let same = same_desk c.args.self.now c.place_for.new.self e c.place_for.ensures.same c.reserve.ensures.same in
     on_err c.set_room.result _ _ (λ kept. same_desk c.args.self.now e _ same (record {
-      state = record { mode = ap (λ (n : Option (List ℕ)). mode_from e.doing n) (kept_name e.files.items place file changed e.current at c.set_room.ensures.name); given = refl; put = refl; stopped = refl; made = refl; left = refl; piece = refl };
+      state = record { mode = ap (λ (n : Option (List ℕ)). mode_from e.doing n) (kept_name e.files.items place file changed e.current at c.set_room.ensures.name); given = refl; put = refl; stopped = refl; made = refl; left = refl; piece = refl; asked = refl };
       failing = refl;
       files = λ other. kept_in contents e.files.items place file changed other at c.set_room.ensures.name (contents_same changed file c.set_room.ensures.exists c.set_room.ensures.items);
       rooms = λ other. kept_in (λ (f : Stored). f.room) e.files.items place file changed other at c.set_room.ensures.name kept;

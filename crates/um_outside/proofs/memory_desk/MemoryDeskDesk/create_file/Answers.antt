@@ -78,6 +78,7 @@ returns-clause-scene c =
       put = ap Some put_items;
       holds = other_files d.files.items name place file _ found at refl;
       empty = file_at _ name place _ (place_of-set d.files.items place file _ name at refl ∙ found) (slice_get-set_same d.files.items place file _ at) refl ∙ ap Some items;
+      asked = c.note.ensures.asks;
     }
 
 pub returns-clause-made : goal.returns-clause-made

@@ -28,4 +28,5 @@ returns-clause-scene c =
       given = ap (λ (l : Listed ℕ). Some l.items) c.clear.ensures;
       put = refl;
       holds = refl;
+      asked = c.note.ensures.asks;
     }

@@ -91,6 +91,7 @@ returns-clause-scene c =
         end = λ none. λ name mode. and_is (files_in d.files.items name) file.bytes.items _ (read_file_is d.files.items d.current d.left d.doing d.given.items d.put.items file name now at is mode) (items ∙ all_given file.bytes.items d.given.items c.args.into.now n d.piece (is.given_front now) (is.within now) size d.piece_up c.requires.room (sym into ∙ none));
         put = refl;
         holds = refl;
+        asked = refl;
       },
     )
 

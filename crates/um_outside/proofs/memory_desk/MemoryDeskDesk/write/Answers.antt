@@ -82,6 +82,7 @@ returns-clause-scene c =
         given = refl;
         put = ap (λ (l : Listed ℕ). Some l.items) c.append_reserved.ensures;
         holds = changes_written d.files.items d.current d.doing file _ now at refl is.found;
+        asked = refl;
       },
     )
 
