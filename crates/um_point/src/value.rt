@@ -11,7 +11,7 @@ ghost use Rattle.um_point.specs.SmallPoints.{IsSmallPoint};
 use crate::sums::{cost_sum, square_sum, times_square};
 use um_deck::Deck;
 use um_model::Point;
-use um_num::Frac;
+use um_num::{Frac, power_of_ten};
 
 /// The objective of a point, as kept for minimising. It need not satisfy the deck.
 pub fn objective(deck: &Deck, point: &Point) -> Frac
@@ -68,12 +68,4 @@ fn constant(deck: &Deck, point: &Point) -> i128
 {
     deck.known();
     times_square(deck.constant(), &point.den)
-}
-
-fn power_of_ten(exponent: u8) -> i128
-    requires { exponent ≤ 6 }
-    ensures value { result ≡ pos (10 ^ exponent) }
-    ensures size { IsWithin (10 ^ 6) result }
-{
-    10_i128.pow(u32::from(exponent))
 }

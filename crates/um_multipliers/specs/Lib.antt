@@ -1,0 +1,3 @@
+pub mod NormalForm
+pub mod PlainMultipliers
+pub mod Sizes
