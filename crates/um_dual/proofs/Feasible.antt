@@ -3,7 +3,7 @@ use Rattle.std.proofs.Common.{◌≡◌, ◌≢◌, ℕ, ◌-◌, ◌<◌, ◌�
 use Rattle.std.specs.Prelude.{ℤ, suc, pos, slice_set, slice_index_or}
 use Rattle.std.proofs.lemmas.List.{get_or-set_same, get_or-set_other}
 use Rattle.um_laws.proofs.Ring.{var, nought, unit, ◌⊕◌, ◌⊗◌, opp}
-use Rattle.um_laws.proofs.RationalOrder.{IsNonNegative}
+use Rattle.um_laws.proofs.RationalOrder.{IsNonNegative, nonneg_of_positive}
 use Rattle.um_laws.specs.Rational.{Rational, whole, add, mul, neg, inverse}
 use Rattle.um_lp.specs.Basis.{sum_below, pivot_line}
 use Rattle.um_lp.specs.Boards.{IsBoard, IsPivot, AreOrdered}
@@ -12,12 +12,11 @@ use Rattle.um_lp.specs.States.{State, Frame, width, cost_of, basic_of, at_of, en
 use Rattle.um_lp.specs.declared.board.At.{At}
 use Rattle.um_lp.specs.declared.board.At.TheVariants.{Lower, Upper, Zero, Basic}
 use Rattle.um_lp.proofs.Acts.{pivot-gives}
-use Rattle.um_lp.proofs.Equations.{by_ring}
+use Rattle.um_laws.proofs.RationalEquations.{by_ring}
 use Rattle.um_lp.proofs.Rows.{same_or_not}
 use Rattle.um_lp.proofs.Sums.{sum-one}
 use Rattle.um_dual.specs.Laws.{DualFeasibleLaw}
 use Rattle.um_dual.proofs.Signs.{IsSide, turn, Stands, nonneg_zero, can_move_not_zero, ratio_side, stands_after, stands_leaving, stands_where, positive_stands, negative_stands}
-use Rattle.um_dual.proofs.Sizes.{nonneg_of_positive}
 
 -- ---- what dual feasible says of one column
 -- the end at which a column stands is finite, and one at Zero has none
@@ -57,7 +56,7 @@ feasible_from t j h = record {
 }
 
 -- ---- the column that leaves
-side_of : (s : State) (row : ℕ) (to : At) → IsOutsideAt s row to → IsSide to
+pub side_of : (s : State) (row : ℕ) (to : At) → IsOutsideAt s row to → IsSide to
 side_of s row Lower h = tt
 side_of s row Upper h = tt
 side_of s row Zero h = h
@@ -73,7 +72,7 @@ end_of s row Zero h = absurd h
 end_of s row Basic h = absurd h
 
 -- a basic column has the reduced cost 0
-basic_reduced : (s : State) (row : ℕ) → IsBoard s → row < s.frame.rows → reduced_of s (basic_of s row) ≡ whole (pos 0)
+pub basic_reduced : (s : State) (row : ℕ) → IsBoard s → row < s.frame.rows → reduced_of s (basic_of s row) ≡ whole (pos 0)
 basic_reduced s row b lr =
     let column : ℕ = basic_of s row in
     let f : ℕ → Rational = λ i. mul (cost_of s (basic_of s i)) (entry_of s i column) in

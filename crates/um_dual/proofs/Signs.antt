@@ -4,14 +4,15 @@ use Rattle.std.specs.Prelude.{ℤ, pos, negsuc, zero, suc, ◌<ℤ◌}
 use Rattle.std.proofs.lemmas.Int.{ints}
 use Rattle.um_laws.proofs.Ring.{var, nought, unit, ◌⊕◌, ◌⊗◌, opp}
 use Rattle.um_laws.proofs.RationalField.{mul_inverse, num_of_zero}
-use Rattle.um_laws.proofs.RationalOrder.{IsNonNegative, IsPositive, nonneg-add, nonneg-mul, positive-mul, sign_of}
+use Rattle.um_laws.proofs.RationalOrder.{IsNonNegative, IsPositive, nonneg-add, nonneg-mul, positive-mul, sign_of, nonneg_of_positive}
 use Rattle.um_laws.specs.Rational.{Rational, whole, add, mul, neg, inverse}
 use Rattle.um_num.proofs.Parts.{zero_parts}
 use Rattle.um_lp.specs.DualSteps.{size, CanMove}
 use Rattle.um_lp.specs.declared.board.At.{At}
 use Rattle.um_lp.specs.declared.board.At.TheVariants.{Lower, Upper, Zero, Basic}
-use Rattle.um_lp.proofs.Equations.{by_ring}
-use Rattle.um_dual.proofs.Sizes.{nonneg_of_positive, not_both, size_of_negative, size_of_other}
+use Rattle.um_laws.proofs.RationalEquations.{by_ring}
+use Rattle.um_dual.proofs.Sizes.{size_of_negative, size_of_other}
+use Rattle.um_num.proofs.Order.{not_both}
 
 -- a side is an end
 abbrev pub IsSide : At → Type 0

@@ -1,13 +1,12 @@
 //! The column that enters.
 
 ghost use Rattle.std.specs.Prelude.{◌≡◌, ◌<◌, ◌+◌, ◌↔◌, IsTrue, IfOk, IfErr};
-ghost use Rattle.um_lp.specs.Boards.{IsOutOfRange};
-ghost use Rattle.um_lp.specs.DualSteps.{Helps, Harms, CanMove};
+ghost use Rattle.um_lp.specs.Refusals.{IsRefusedAt};
 ghost use Rattle.um_lp.specs.States.{width};
 ghost use Rattle.um_dual.specs.Choices.{IsRatio, IsEarlier, EntersBelow, IsEntering};
 
-use crate::numbers::{is_below, quotient, size};
-use um_lp::{At, Board, Wide};
+use crate::numbers::size;
+use um_lp::{At, Board, Wide, can_move};
 use um_num::Frac;
 
 /// A column that may enter, with the size of its reduced cost over its entry.
@@ -17,35 +16,13 @@ pub struct EnteringColumn {
     pub ratio: Frac,
 }
 
-fn helps(to: At, entry: &Frac) -> bool
-    ensures { IsTrue result ↔ Helps to entry.now }
-{
-    match to {
-        At::Lower => entry.num() > 0,
-        At::Upper => entry.num() < 0,
-        At::Zero | At::Basic => false,
-    }
-}
-
-fn harms(to: At, entry: &Frac) -> bool
-    ensures { IsTrue result ↔ Harms to entry.now }
-{
-    match to {
-        At::Lower => entry.num() < 0,
-        At::Upper => entry.num() > 0,
-        At::Zero | At::Basic => false,
-    }
-}
-
-/// A column that stands there can move in the way in which it helps one that leaves to an end.
-fn can_move(at: At, to: At, entry: &Frac) -> bool
-    ensures { IsTrue result ↔ CanMove at to entry.now }
+/// A basic column may not enter, and its entry need not be read.
+fn is_basic(at: At) -> bool
+    ensures { IsTrue result ↔ (at ≡ At.Basic) }
 {
     match at {
-        At::Lower => helps(to, entry),
-        At::Upper => harms(to, entry),
-        At::Zero => !entry.is_zero(),
-        At::Basic => false,
+        At::Basic => true,
+        At::Lower | At::Upper | At::Zero => false,
     }
 }
 
@@ -54,14 +31,18 @@ fn ratio_of<B: Board>(board: &B, row: u32, to: At, column: u32) -> Result<Option
     requires row { row < (B.state board.now).frame.rows }
     requires column { column < width (B.state board.now).frame }
     ensures ratio { IfOk result (IsRatio (B.state board.now) row to column) }
-    ensures wide { IfErr result IsOutOfRange }
+    ensures wide { IfErr result (IsRefusedAt (B.state board.now)) }
 {
+    let at = board.at(column);
+    if is_basic(at) {
+        return Ok(None);
+    }
     let entry = board.entry(row, column)?;
-    if !can_move(board.at(column), to, &entry) {
+    if !can_move(at, to, &entry) {
         return Ok(None);
     }
     let cost = board.cost(column)?;
-    let quotient = quotient(&cost, &entry)?;
+    let quotient = cost.div(&entry)?;
     Ok(Some(size(&quotient)))
 }
 
@@ -70,7 +51,7 @@ fn earlier(first: Option<EnteringColumn>, other: EnteringColumn) -> EnteringColu
     ensures { IsEarlier first other result }
 {
     match first {
-        Some(least) if !is_below(&other.ratio, &least.ratio) => least,
+        Some(least) if !other.ratio.is_below(&least.ratio) => least,
         _ => other,
     }
 }
@@ -87,7 +68,7 @@ fn with_column<B: Board>(
     requires column { column < width (B.state board.now).frame }
     requires first { EntersBelow (B.state board.now) row to column first }
     ensures first { IfOk result (EntersBelow (B.state board.now) row to (column + 1)) }
-    ensures wide { IfErr result IsOutOfRange }
+    ensures wide { IfErr result (IsRefusedAt (B.state board.now)) }
 {
     match ratio_of(board, row, to, column)? {
         Some(ratio) => Ok(Some(earlier(first, EnteringColumn { column, ratio }))),
@@ -99,7 +80,7 @@ fn with_column<B: Board>(
 pub fn entering<B: Board>(board: &B, row: u32, to: At) -> Result<Option<EnteringColumn>, Wide>
     requires { row < (B.state board.now).frame.rows }
     ensures first { IfOk result (IsEntering (B.state board.now) row to) }
-    ensures wide { IfErr result IsOutOfRange }
+    ensures wide { IfErr result (IsRefusedAt (B.state board.now)) }
 {
     let mut first = None;
     for column in 0..board.columns() {

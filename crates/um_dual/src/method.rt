@@ -1,9 +1,11 @@
 //! One step of the method, and the run of steps.
 
-ghost use Rattle.std.specs.Prelude.{◌≡◌, ◌≤◌, ◌-◌, IfOk, IfErr};
-ghost use Rattle.um_lp.specs.Boards.{IsOutOfRange};
+ghost use Rattle.std.specs.Prelude.{◌≡◌, ◌≢◌, ◌≤◌, ◌-◌, ◌^◌, IfOk, IfErr};
+ghost use Rattle.um_lp.specs.Refusals.{IsRefusedAt};
 ghost use Rattle.um_lp.specs.DualSteps.{IsNext, AreSteps, IsDualFeasible};
+ghost use Rattle.um_lp.specs.States.{width};
 ghost use Rattle.um_dual.specs.Methods.{next_of, IsStepped, HasEnded};
+ghost use Rattle.um_dual.specs.Used.{is_used, count_below};
 
 use crate::{entering, leaving};
 use um_lp::{At, Board, Wide};
@@ -47,7 +49,7 @@ pub enum Ended {
 /// What comes next.
 pub fn next<B: Board>(board: &B) -> Result<Choice, Wide>
     ensures next { IfOk result (λ choice. IsNext (B.state board.now) (next_of choice)) }
-    ensures wide { IfErr result IsOutOfRange }
+    ensures wide { IfErr result (IsRefusedAt (B.state board.now)) }
 {
     let Some(leaving) = leaving(board)? else {
         return Ok(Choice::Ended);
@@ -87,6 +89,7 @@ pub fn solve<B: Board>(board: &mut B, left: &mut u64) -> Ended
     ensures steps { AreSteps (left.old - left.new) (B.state board.old) (B.state board.new) }
     ensures ended { HasEnded (B.state board.new) left.new result }
     ensures feasible { IsDualFeasible (B.state board.new) }
+    ensures enough { 3 ^ count_below (width (B.state board.old).frame) (is_used (B.state board.old)) ≤ left.old → result ≢ Ended.OutOfPivots }
     ensures keeps { B.Keeps board.old board.new }
 {
     'steps: loop {

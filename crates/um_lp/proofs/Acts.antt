@@ -10,7 +10,7 @@ use Rattle.um_lp.specs.Boards.{IsShaped, IsBoard, SameRows, IsFinite, IsPivot, r
 use Rattle.um_lp.specs.States.{State, width, system, cost_of, basic_of, at_of, ends_of, entry_of, reduced_of, value_of, end_at, number_of_end}
 use Rattle.um_lp.specs.declared.board.At.{At}
 use Rattle.um_lp.specs.declared.board.At.TheVariants.{Lower, Upper, Zero, Basic}
-use Rattle.um_lp.proofs.Equations.{by_ring, over_is}
+use Rattle.um_laws.proofs.RationalEquations.{by_ring, over_is}
 use Rattle.um_lp.proofs.Pivots.{TableauOf-pivot, TableauOf-same, basic-set}
 use Rattle.um_lp.proofs.ReducedCosts.{reduced_cost, reduced-pivot, reduced-same}
 use Rattle.um_lp.proofs.Rows.{same_or_not}

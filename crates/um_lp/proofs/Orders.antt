@@ -10,7 +10,7 @@ use Rattle.um_laws.proofs.Ring.{var, nought, ◌⊕◌, opp}
 use Rattle.um_laws.specs.LowestTerms.{one_reduced}
 use Rattle.um_laws.specs.Rational.{Rational, Is, whole, add, neg}
 use Rattle.um_num.specs.Fractions.{IsBelow}
-use Rattle.um_lp.proofs.Equations.{by_ring}
+use Rattle.um_laws.proofs.RationalEquations.{by_ring}
 
 -- ---- whole numbers
 

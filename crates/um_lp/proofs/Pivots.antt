@@ -6,7 +6,7 @@ use Rattle.um_laws.proofs.Ring.{var, nought, unit, ◌⊕◌, ◌⊗◌, opp}
 use Rattle.um_laws.specs.Rational.{Rational, whole, add, mul, neg, inverse}
 use Rattle.um_lp.specs.Basis.{sum_below, TableauOf, pivot_line, pivot_entry, pivot_basic}
 use Rattle.um_lp.specs.Laws.{PivotLaw}
-use Rattle.um_lp.proofs.Equations.{by_ring, equal_from_difference, factor_is}
+use Rattle.um_laws.proofs.RationalEquations.{by_ring, equal_from_difference, factor_is}
 use Rattle.um_lp.proofs.ReducedCosts.{reduced-pivot}
 use Rattle.um_lp.proofs.Rows.{by_row}
 use Rattle.um_lp.proofs.Sums.{sum-cong, sum-add, sum-mul}

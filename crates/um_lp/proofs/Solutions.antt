@@ -5,7 +5,7 @@ use Rattle.um_laws.proofs.Ring.{var, nought, unit, ◌⊕◌, ◌⊗◌, opp}
 use Rattle.um_laws.specs.Rational.{Rational, whole, add, mul, neg, inverse}
 use Rattle.um_lp.specs.Basis.{sum_below, Solves, pivot_entry}
 use Rattle.um_lp.specs.Laws.{SameSolutionsLaw, TableauSolutionsLaw}
-use Rattle.um_lp.proofs.Equations.{by_ring, factor_is}
+use Rattle.um_laws.proofs.RationalEquations.{by_ring, factor_is}
 use Rattle.um_lp.proofs.Rows.{by_row}
 use Rattle.um_lp.proofs.Sums.{sum-cong, sum-mul, sum-neg, sum-none, sum-swap, sum-combined, sum-scaled}
 

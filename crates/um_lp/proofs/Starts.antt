@@ -10,7 +10,7 @@ use Rattle.um_lp.specs.declared.board.At.{At}
 use Rattle.um_lp.specs.declared.board.At.TheVariants.{Lower, Basic}
 use Rattle.um_lp.specs.declared.board.Costs.{Costs}
 use Rattle.um_lp.specs.declared.board.Costs.TheVariants.{Given, Nothing}
-use Rattle.um_lp.proofs.Equations.{by_ring}
+use Rattle.um_laws.proofs.RationalEquations.{by_ring}
 use Rattle.um_lp.proofs.ReducedCosts.{reduced_cost}
 use Rattle.um_lp.proofs.Rows.{by_row, by_below, below_or}
 use Rattle.um_lp.proofs.Sums.{sum-cong, sum-none, sum-one}

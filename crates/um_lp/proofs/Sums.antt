@@ -5,7 +5,7 @@ use Rattle.std.proofs.Math.Numerals.{add-one}
 use Rattle.um_laws.proofs.Ring.{var, nought, ◌⊕◌, ◌⊗◌, opp}
 use Rattle.um_laws.specs.Rational.{Rational, whole, add, mul, neg}
 use Rattle.um_lp.specs.Basis.{sum_below}
-use Rattle.um_lp.proofs.Equations.{by_ring}
+use Rattle.um_laws.proofs.RationalEquations.{by_ring}
 use Rattle.um_lp.proofs.Rows.{by_row}
 
 -- sums of parts that are equal in range

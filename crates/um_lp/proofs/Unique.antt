@@ -6,7 +6,7 @@ use Rattle.um_laws.specs.Divisors.{gcd}
 use Rattle.um_laws.specs.Rational.{Rational, reduce, whole, add, mul, neg}
 use Rattle.um_lp.specs.Basis.{sum_below, TableauOf, Solves}
 use Rattle.um_lp.specs.Laws.{OneTableauLaw}
-use Rattle.um_lp.proofs.Equations.{by_ring, difference_zero, equal_from_difference}
+use Rattle.um_laws.proofs.RationalEquations.{by_ring, difference_zero, equal_from_difference}
 use Rattle.um_lp.proofs.Rows.{row_with, same_or_not}
 use Rattle.um_lp.proofs.Sums.{sum-cong, sum-add, sum-mul, sum-neg, sum-one, sum-swap}
 

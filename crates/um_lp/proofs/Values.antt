@@ -4,7 +4,7 @@ use Rattle.std.specs.Prelude.{pos}
 use Rattle.um_laws.proofs.Ring.{var, nought, unit, ◌⊕◌, ◌⊗◌, opp}
 use Rattle.um_laws.specs.Rational.{Rational, whole, add, mul, neg}
 use Rattle.um_lp.specs.Basis.{sum_below, TableauOf, Solves, pivot_entry}
-use Rattle.um_lp.proofs.Equations.{by_ring, difference_zero}
+use Rattle.um_laws.proofs.RationalEquations.{by_ring, difference_zero}
 use Rattle.um_lp.proofs.Rows.{row_with}
 use Rattle.um_lp.proofs.Solutions.{solves_after}
 use Rattle.um_lp.proofs.Sums.{sum-cong, sum-add, sum-two}

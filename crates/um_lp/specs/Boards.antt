@@ -1,9 +1,7 @@
 -- What holds of the state of every board, and what each act leaves.
-use Rattle.std.specs.Prelude.{◌≡◌, ◌≢◌, ℕ, ◌+◌, ◌<◌, ℤ, pos, ◌≤ℤ◌, ◌<ℤ◌, List, [], length, slice_set, All, Option, Some, None, IsSome}
+use Rattle.std.specs.Prelude.{◌≡◌, ◌≢◌, ℕ, ◌<◌, ℤ, pos, ◌≤ℤ◌, ◌<ℤ◌, List, [], length, slice_set, All, Option, Some, None, IsSome}
 use Rattle.std.specs.Option.{ForSome}
-use Rattle.um_laws.specs.Rational.{Rational, whole, add, mul}
-use Rattle.um_num.specs.declared.exact.Wide.{Wide}
-use Rattle.um_num.specs.Numbers.{IsInRange, exact}
+use Rattle.um_laws.specs.Rational.{Rational, add, mul}
 use Rattle.um_lp.specs.Basis.{sum_below, Solves, TableauOf}
 use Rattle.um_lp.specs.States.{State, Frame, width, slack, system, cost_of, basic_of, at_of, ends_of, entry_of, reduced_of, value_of, end_at, number_of_end}
 use Rattle.um_lp.specs.declared.board.At.{At}
@@ -114,11 +112,3 @@ pub record IsRebox (column : ℕ) (given : Option ℤ × Option ℤ) (s t : Stat
   pub at : t.at ≡ slice_set s.at column (at_of t column)
   pub stands : StandsAt (at_of s column) (at_of t column) (reduced_of s column) given
   pub board : IsBoard t
-
--- ---- refusals
-
--- the operation of these operands is out of range
-pub record IsOutOfRange (w : Wide) : Type 0 where
-  pub left : IsInRange w.left
-  pub right : IsInRange w.right
-  pub result : ¬ IsInRange (exact w.op w.left w.right)

@@ -1,11 +1,10 @@
 -- The next step of the bounded dual simplex method, as a choice in a state.
-use Rattle.std.specs.Prelude.{◌≡◌, ◌≢◌, ℕ, ◌≤◌, ◌<◌, ℤ, pos, neg_ℤ, ◌<ℤ◌, ◌≤ℤ◌, Option, Some, None, IsSome, IfSome, IfNone, zero, suc, ◌⊎◌, ⊤}
-use Rattle.std.specs.Option.{ForSome}
+use Rattle.std.specs.Prelude.{◌≡◌, ◌≢◌, ℕ, ◌≤◌, ◌<◌, ℤ, pos, ◌<ℤ◌, Option, Some, None, IsSome, zero, suc, ◌⊎◌}
 use lib.IntN.{nat_abs}
-use Rattle.um_laws.specs.Rational.{Rational, reduce, whole, add, mul, neg, inverse}
+use Rattle.um_laws.specs.Rational.{Rational, reduce, whole, mul, inverse}
 use Rattle.um_num.specs.Fractions.{IsBelow}
-use Rattle.um_lp.specs.States.{State, width, basic_of, at_of, ends_of, entry_of, reduced_of, value_of, end_at}
-use Rattle.um_lp.specs.Boards.{IsBoard, IsPivot, AreOrdered, IsFinite}
+use Rattle.um_lp.specs.States.{State, width, basic_of, at_of, ends_of, entry_of, reduced_of, value_of}
+use Rattle.um_lp.specs.Boards.{IsPivot, AreOrdered}
 use Rattle.um_lp.specs.declared.board.At.{At}
 use Rattle.um_lp.specs.declared.board.At.TheVariants.{Lower, Upper, Zero, Basic}
 

@@ -1,7 +1,8 @@
 -- What a board shows: its basis, where each column stands, and the numbers that follow.
-use Rattle.std.specs.Prelude.{◌≡◌, ℕ, ◌+◌, ◌-◌, ◌<◌, nat_lt, nat_eq, ◌==◌, ℤ, pos, if◌then◌else◌, List, [], length, slice_index, slice_index_or, Option, Some, None}
+use Rattle.std.specs.Prelude.{ℕ, ◌+◌, ◌-◌, nat_lt, nat_eq, ◌==◌, ℤ, pos, if◌then◌else◌, List, [], length, slice_index, slice_index_or, Option, Some, None}
 use Rattle.um_laws.specs.Rational.{Rational, whole, neg}
 use Rattle.um_laws.specs.Sums.{sum_of}
+use Rattle.um_num.specs.NumberLists.{number_at}
 use Rattle.um_lp.specs.declared.board.At.{At}
 use Rattle.um_lp.specs.declared.board.At.TheVariants.{Lower, Upper, Zero, Basic}
 use Rattle.um_lp.specs.declared.board.Costs.{Costs}
@@ -80,10 +81,6 @@ at_of s column = slice_index_or s.at column Zero
 
 abbrev pub ends_of : State → ℕ → Option ℤ × Option ℤ
 ends_of s column = slice_index_or s.ends column (None, None)
-
--- the number at a place, and 0 past the end
-abbrev pub number_at : List Rational → ℕ → Rational
-number_at numbers place = slice_index_or numbers place (whole (pos 0))
 
 abbrev pub entry_of : State → ℕ → ℕ → Rational
 entry_of s row column = number_at (slice_index_or s.entries row []) column

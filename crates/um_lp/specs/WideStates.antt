@@ -1,5 +1,5 @@
 -- States with large numbers: where an operation on them may leave the range.
-use Rattle.std.specs.Prelude.{ℕ, ◌*◌, ◌/◌, ◌^◌, nat_le, Bool, ◌||◌, List, [], ◌∷◌, ◌++◌}
+use Rattle.std.specs.Prelude.{◌≡◌, ℕ, ◌*◌, ◌/◌, ◌^◌, nat_le, Bool, false, ◌||◌, List, [], ◌∷◌, ◌++◌}
 use Rattle.std.specs.List.{list_any}
 use lib.IntN.{nat_abs}
 use Rattle.um_laws.specs.Divisors.{gcd}
@@ -30,6 +30,10 @@ is_large_over denominator x = nat_le (2 ^ 62) (nat_abs x.num * (denominator / x.
 -- over their least common denominator, that denominator or one of the numerators is 2^62 or more in size
 abbrev pub are_wide : List Rational → Bool
 are_wide numbers = nat_le (2 ^ 62) (common_denominator numbers) || list_any (is_large_over (common_denominator numbers)) numbers
+
+-- the numbers are not wide
+abbrev pub AreNarrow : List Rational → Type 0
+AreNarrow numbers = are_wide numbers ≡ false
 
 unfoldable pub is_wide : State → Bool
 is_wide s = are_wide (numbers_of s)

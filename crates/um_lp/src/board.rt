@@ -4,7 +4,8 @@ ghost use Rattle.std.specs.Prelude.{◌≡◌, ◌≢◌, ◌<◌, pos, Option, 
 ghost use Rattle.um_laws.specs.Rational.{whole};
 ghost use Rattle.um_num.specs.Numbers.{IsInRange};
 ghost use Rattle.std.specs.Option.{ForSome};
-ghost use Rattle.um_lp.specs.Boards.{IsBoard, IsPivot, IsRebox, IsFinite, AreOrdered, IsWantedEndFinite, IsOutOfRange};
+ghost use Rattle.um_lp.specs.Boards.{IsBoard, IsPivot, IsRebox, IsFinite, AreOrdered, IsWantedEndFinite};
+ghost use Rattle.um_lp.specs.Refusals.{IsRefusedAt, IsRefusedAct};
 ghost use Rattle.um_lp.specs.States.{State, width, at_of, basic_of, ends_of, entry_of, reduced_of, value_of};
 
 use um_num::{Frac, Wide};
@@ -72,18 +73,18 @@ pub trait Board {
         requires row_in { row < (state self.now).frame.rows }
         requires column_in { column < width (state self.now).frame }
         ensures value { IfOk result (λ entry. entry ≡ entry_of (state self.now) row column) }
-        ensures wide { IfErr result IsOutOfRange };
+        ensures wide { IfErr result (IsRefusedAt (state self.now)) };
 
     /// The reduced cost of a column.
     fn cost(&self, column: u32) -> Result<Frac, Wide>
         requires { column < width (state self.now).frame }
         ensures value { IfOk result (λ cost. cost ≡ reduced_of (state self.now) column) }
-        ensures wide { IfErr result IsOutOfRange };
+        ensures wide { IfErr result (IsRefusedAt (state self.now)) };
 
     fn value(&self, column: u32) -> Result<Frac, Wide>
         requires { column < width (state self.now).frame }
         ensures value { IfOk result (λ value. value ≡ value_of (state self.now) column) }
-        ensures wide { IfErr result IsOutOfRange };
+        ensures wide { IfErr result (IsRefusedAt (state self.now)) };
 
     /// The column enters the basis, and the basic column of the row leaves to the named end.
     fn pivot(&mut self, row: u32, column: u32, to: At) -> Result<(), Wide>
@@ -94,7 +95,7 @@ pub trait Board {
         requires finite { IsFinite to (ends_of (state self.old) (basic_of (state self.old) row)) }
         ensures ok { OnOk result (IsPivot row column to (state self.old) (state self.new)) }
         ensures err { OnErr result (state self.new ≡ state self.old) }
-        ensures wide { IfErr result IsOutOfRange }
+        ensures wide { IfErr result (IsRefusedAct (state self.old) (IsPivot row column to (state self.old))) }
         ensures keeps { Keeps self.old self.new };
 
     /// A column gets these ends. A nonbasic one goes to the end that its reduced cost wants; where
@@ -107,7 +108,7 @@ pub trait Board {
         requires wanted { IsWantedEndFinite (at_of (state self.old) column) (reduced_of (state self.old) column) (low, high) }
         ensures ok { OnOk result (IsRebox column (low, high) (state self.old) (state self.new)) }
         ensures err { OnErr result (state self.new ≡ state self.old) }
-        ensures wide { IfErr result IsOutOfRange }
+        ensures wide { IfErr result (IsRefusedAct (state self.old) (IsRebox column (low, high) (state self.old))) }
         ensures keeps { Keeps self.old self.new };
 
     /// What holds of every board.

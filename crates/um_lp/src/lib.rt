@@ -10,11 +10,13 @@
 //! the places for grid points. A slack is the sum of its row.
 #![tactic(auto)]
 
-pub mod board;
+mod board;
 pub mod laws;
-pub mod relaxation;
+mod relaxation;
+mod sides;
 
 pub use board::{At, Board, Costs};
 pub use relaxation::{Bend, Relaxation, Term};
-pub use um_model::{Multipliers, Price};
+pub use sides::{can_move, harms, helps, is_above_end, is_below_end};
+pub use um_multipliers::{Multipliers, Price};
 pub use um_num::Wide;

@@ -14,7 +14,7 @@ use Rattle.um_lp.specs.Boards.{IsPivot, IsRebox, IsFinite}
 use Rattle.um_lp.specs.States.{Frame, width, at_of, ends_of, entry_of, basic_of, end_at, number_of_end}
 use Rattle.um_lp.specs.declared.board.At.{At}
 use Rattle.um_lp.specs.declared.board.At.TheVariants.{Basic}
-use Rattle.um_lp.proofs.Equations.{by_ring}
+use Rattle.um_laws.proofs.RationalEquations.{by_ring}
 use Rattle.um_lp.proofs.Acts.{IsBoard-pivot, IsBoard-rebox}
 use Rattle.um_lp.proofs.Rows.{same_or_not}
 use Rattle.um_lp.proofs.Starts.{HasSlackBasis}

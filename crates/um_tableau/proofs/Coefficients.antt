@@ -11,7 +11,7 @@ use Rattle.um_lp.specs.Relaxations.{columns_of, AreTerms}
 use Rattle.um_lp.specs.declared.relaxation.Term.{Term}
 use Rattle.um_lp.proofs.Rows.{by_row}
 use Rattle.um_tableau.specs.Frames.{items_of, cost_in, AreRisingTerms}
-use Rattle.um_tableau.specs.Lines.{AreInRange}
+use Rattle.um_lines.specs.Lines.{AreInRange}
 use Rattle.um_tableau.proofs.FrameLemmas.{length-same, column_at}
 
 -- where no term is in the row there is 0

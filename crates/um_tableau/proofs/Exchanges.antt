@@ -2,7 +2,7 @@
 use Rattle.std.proofs.Common.{◌≡◌, ℕ, ◌<◌, List, length, slice_set, arith, sym, ◌∙◌, ap, subst}
 use Rattle.um_laws.specs.Rational.{Rational, add, mul}
 use Rattle.um_lp.specs.Basis.{pivot_line, pivot_entry}
-use Rattle.um_lp.specs.States.{number_at}
+use Rattle.um_num.specs.NumberLists.{number_at}
 use Rattle.um_lp.specs.declared.board.At.{At}
 use Rattle.um_lp.specs.declared.board.At.TheVariants.{Basic}
 use Rattle.um_tableau.specs.Rows.{entry_at, AreLong}

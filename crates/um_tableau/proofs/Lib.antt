@@ -1,8 +1,4 @@
-pub mod Wholes
-pub mod LineNumbers
-pub mod LineValues
 pub mod RowSteps
-pub mod Refusals
 pub mod ValueSteps
 pub mod Taken
 pub mod FrameLemmas
@@ -11,3 +7,8 @@ pub mod Ends
 pub mod BoardActs
 pub mod Coefficients
 pub mod Starting
+mod NewLines
+mod Rises
+pub mod RefusedActs
+pub mod FirstBasis
+mod NarrowLines

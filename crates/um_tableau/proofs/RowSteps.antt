@@ -2,7 +2,7 @@
 use Rattle.std.proofs.Common.{◌≡◌, ◌≢◌, ℕ, ◌+◌, ◌<◌, ◌≤◌, pos, List, [], length, slice_set, slice_index_or, arith, sym, ◌∙◌, ap, subst, below_more, inl, inr}
 use Rattle.std.proofs.lemmas.List.{get_or_default, get_or-set_same, get_or-set_other, length-set}
 use Rattle.um_laws.specs.Rational.{Rational, whole}
-use Rattle.um_lp.specs.States.{number_at}
+use Rattle.um_num.specs.NumberLists.{number_at}
 use Rattle.um_lp.proofs.Rows.{same_or_not}
 use Rattle.um_tableau.specs.Rows.{row_at, entry_at, AreLong}
 

@@ -4,10 +4,11 @@ use Rattle.std.proofs.lemmas.List.{get_or-map, get_or-set_same, get_or-set_other
 use Rattle.um_laws.specs.Rational.{Rational, whole, add, neg}
 use Rattle.um_laws.proofs.RationalField.{is_whole, is_add, zero_value}
 use Rattle.um_laws.proofs.Ring.{var, nought, ◌⊕◌, opp}
-use Rattle.um_lp.specs.States.{Frame, width, slack, data_of, coefficient, number_at, system}
-use Rattle.um_lp.proofs.Equations.{by_ring}
+use Rattle.um_num.specs.NumberLists.{number_at}
+use Rattle.um_lp.specs.States.{Frame, width, slack, data_of, coefficient, system}
+use Rattle.um_laws.proofs.RationalEquations.{by_ring}
 use Rattle.um_lp.proofs.Rows.{by_row}
-use Rattle.um_tableau.specs.Lines.{whole_at}
+use Rattle.um_lines.specs.Lines.{whole_at}
 use Rattle.um_tableau.specs.Starts.{bare}
 
 -- minus one, as a whole number and as a negative

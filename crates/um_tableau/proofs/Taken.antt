@@ -4,7 +4,7 @@ use Rattle.std.specs.Prelude.{pos}
 use Rattle.um_laws.specs.Rational.{Rational, whole, add, mul}
 use Rattle.um_num.proofs.Parts.{parts_zero, zero_parts}
 use Rattle.um_lp.specs.Basis.{pivot_line, pivot_entry}
-use Rattle.um_lp.specs.States.{number_at}
+use Rattle.um_num.specs.NumberLists.{number_at}
 use Rattle.um_lp.proofs.Rows.{by_row}
 use Rattle.um_tableau.specs.Rows.{row_at, entry_at, AreLong, IsNextLine}
 use Rattle.um_tableau.proofs.RowSteps.{row_at-set_same, row_at-set_other}

@@ -4,8 +4,8 @@ use Rattle.std.specs.Prelude.{pos, slice_index}
 use Rattle.std.proofs.lemmas.List.{get_or_default, get_or-set_same, get_or-set_other, length-set}
 use Rattle.um_laws.proofs.Ring.{var, nought, ◌⊕◌, ◌⊗◌}
 use Rattle.um_laws.specs.Rational.{Rational, whole, add, mul}
-use Rattle.um_lp.specs.States.{number_at}
-use Rattle.um_lp.proofs.Equations.{by_ring}
+use Rattle.um_num.specs.NumberLists.{number_at}
+use Rattle.um_laws.proofs.RationalEquations.{by_ring}
 use Rattle.um_tableau.specs.Rows.{AreBelow, AreDistinct}
 
 -- what is 0 times a number adds nothing

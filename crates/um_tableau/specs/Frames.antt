@@ -3,7 +3,7 @@ use Rattle.std.specs.Prelude.{◌≡◌, ℕ, ◌+◌, ◌<◌, ◌^◌, ℤ, Li
 use Rattle.um_num.specs.Listed.{Listed}
 use Rattle.um_num.specs.Numbers.{IsInRange}
 use Rattle.um_lp.specs.States.{ColumnData}
-use Rattle.um_tableau.specs.Lines.{AreInRange}
+use Rattle.um_lines.specs.Lines.{AreInRange}
 use Rattle.um_lp.specs.declared.relaxation.Term.{Term}
 
 -- the items of a list

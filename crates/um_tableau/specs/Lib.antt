@@ -1,7 +1,6 @@
-pub mod Lines
 pub mod Rows
 pub mod Sheets
 pub mod Stands
 pub mod Frames
 pub mod Starts
-pub mod Combined
+pub mod NarrowActs

@@ -2,7 +2,7 @@
 use Rattle.std.specs.Prelude.{◌≡◌, ◌≢◌, ℕ, ◌<◌, pos, List, [], length, slice_index, slice_index_or}
 use Rattle.um_laws.specs.Rational.{Rational, whole, add, mul}
 use Rattle.um_lp.specs.Basis.{pivot_line}
-use Rattle.um_lp.specs.States.{number_at}
+use Rattle.um_num.specs.NumberLists.{number_at}
 use Rattle.um_tableau.specs.declared.lines.SpareLines.{SpareLines}
 
 -- a row, and the empty one past the end

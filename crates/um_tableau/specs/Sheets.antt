@@ -5,7 +5,8 @@ use Rattle.um_laws.specs.Rational.{Rational, add, mul, neg, inverse}
 use Rattle.um_num.specs.Numbers.{IsInRange}
 use Rattle.um_lp.specs.Basis.{pivot_line, pivot_entry}
 use Rattle.um_lp.specs.Boards.{StandsAt}
-use Rattle.um_lp.specs.States.{State, Frame, number_at, end_at, number_of_end}
+use Rattle.um_num.specs.NumberLists.{number_at}
+use Rattle.um_lp.specs.States.{State, Frame, end_at, number_of_end}
 use Rattle.um_lp.specs.declared.board.At.{At}
 use Rattle.um_lp.specs.declared.board.At.TheVariants.{Zero, Basic}
 use Rattle.um_lp.specs.declared.board.Costs.TheVariants.{Given}

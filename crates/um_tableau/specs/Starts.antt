@@ -1,6 +1,7 @@
 -- A board at its making.
 use Rattle.std.specs.Prelude.{◌≡◌, ℕ, ◌<◌, ◌≤◌, List, [], length, slice_index, slice_index_or}
-use Rattle.um_lp.specs.States.{State, Frame, width, slack, number_at, system, cost_of}
+use Rattle.um_num.specs.NumberLists.{number_at}
+use Rattle.um_lp.specs.States.{State, Frame, width, slack, system, cost_of}
 use Rattle.um_lp.specs.declared.board.At.{At}
 use Rattle.um_lp.specs.declared.board.At.TheVariants.{Lower, Zero, Basic}
 use Rattle.um_lp.specs.declared.board.Costs.TheVariants.{Given}

@@ -2,7 +2,7 @@
 
 ghost use Rattle.std.specs.Prelude.{◌≡◌, ◌+◌, ◌<◌, length, map, slice_index_or, All, AllPairs, IfOk};
 ghost use Rattle.um_num.specs.Numbers.{IsInRange};
-ghost use Rattle.um_tableau.specs.Lines.{AreInRange};
+ghost use Rattle.um_lines.specs.Lines.{AreInRange};
 ghost use Rattle.um_tableau.specs.Frames.{items_of, cost_in};
 ghost use Rattle.um_lp.specs.States.{width, coefficient, no_data};
 ghost use Rattle.um_lp.specs.Relaxations.{frame_of, IsRelaxation};

@@ -3,12 +3,17 @@
 ghost use Rattle.std.specs.Prelude.{◌≡◌, ◌≢◌, ℕ, ◌<◌, pos, length, IfErr, OnOk};
 ghost use Rattle.um_laws.specs.Rational.{add, mul, whole};
 ghost use Rattle.um_lp.specs.Basis.{pivot_line, pivot_entry};
-ghost use Rattle.um_lp.specs.Boards.{IsOutOfRange};
-ghost use Rattle.um_lp.specs.States.{number_at};
-ghost use Rattle.um_tableau.specs.Rows.{entry_at, AreLong, AreNextLines, AreSpare};
+ghost use Rattle.um_num.specs.Numbers.{IsOutOfRange};
+ghost use Rattle.um_num.specs.NumberLists.{number_at};
+ghost use Rattle.um_laws.specs.Rational.{Rational};
+ghost use Rattle.std.specs.Prelude.{List};
+ghost use Rattle.um_lp.specs.WideStates.{AreNarrow};
+ghost use Rattle.um_lines.specs.Lines.{HasMinusOne};
+ghost use Rattle.std.specs.Result.{IsOk};
+ghost use Rattle.um_tableau.specs.Rows.{row_at, entry_at, AreLong, AreNextLines, AreSpare};
 
-use crate::line::Line;
 use crate::rows::{next_line, next_rows, take_line, take_rows};
+use um_lines::Line;
 use um_num::Wide;
 
 /// Room for the lines after a pivot.
@@ -32,9 +37,11 @@ pub fn next_lines(
     requires column_in { column < length reduced.now }
     requires long { AreLong (length reduced.now) entries.now }
     requires spare { AreSpare (length entries.now) (length reduced.now) spare.old }
+    requires own { HasMinusOne (row_at entries.now row) }
     requires not_zero { entry_at entries.now row column ≢ whole (pos 0) }
     ensures spare { AreSpare (length entries.now) (length reduced.now) spare.new }
     ensures next { OnOk result (AreNextLines entries.now reduced.now row column spare.new.line spare.new.rows.items spare.new.reduced) }
+    ensures narrow { (line : List Rational) → length line ≡ length reduced.now → ((j : ℕ) → j < length reduced.now → number_at line j ≡ pivot_line (entry_at entries.now) row column j) → AreNarrow line → AreNarrow reduced.now → ((i : ℕ) → i < length entries.now → AreNarrow (row_at entries.now i)) → IsOk result }
     ensures wide { IfErr result IsOutOfRange }
 {
     entries[row].divide_by_entry(column, &mut spare.line);

@@ -7,13 +7,13 @@ ghost use Rattle.um_tableau.specs.Sheets.{state_of, AreEndsInRange};
 ghost use Rattle.um_lp.proofs.Starts.{HasSlackBasis};
 
 use crate::given::Given;
-use crate::line::Line;
 use crate::lines::SpareLines;
 use crate::sheet::{Sheet, Spare};
 use crate::start::{
     first_basic, first_costs, first_statuses, system_rows, zero_ends, zero_line, zero_values,
 };
 use std::alloc::{AllocError, Global};
+use um_lines::Line;
 
 /// The sheet of the slack basis.
 pub fn first_sheet(alloc: Global, given: &Given) -> Result<Sheet, AllocError>
@@ -21,13 +21,19 @@ pub fn first_sheet(alloc: Global, given: &Given) -> Result<Sheet, AllocError>
     ensures ends { IfOk result (λ sheet. AreEndsInRange sheet.ends.items) }
 {
     let width = given.width() as usize;
+    let values = zero_values(alloc, width)?;
+    let basic = first_basic(alloc, given)?;
+    let at = first_statuses(alloc, given)?;
+    let ends = zero_ends(alloc, width)?;
+    let entries = system_rows(alloc, given)?;
+    let reduced = first_costs(alloc, given)?;
     Ok(Sheet {
-        basic: first_basic(alloc, given)?,
-        at: first_statuses(alloc, given)?,
-        ends: zero_ends(alloc, width)?,
-        entries: system_rows(alloc, given)?,
-        reduced: first_costs(alloc, given)?,
-        values: zero_values(alloc, width)?,
+        basic,
+        at,
+        ends,
+        entries,
+        reduced,
+        values,
     })
 }
 

@@ -2,14 +2,16 @@
 
 ghost use Rattle.std.specs.Prelude.{◌≡◌, ◌≢◌, ℕ, ◌<◌, pos, length, slice_index, slice_set, slice_index_or, IfErr, OnOk, OnErr, None};
 ghost use Rattle.std.specs.Option.{ForSome};
-ghost use Rattle.um_num.specs.Numbers.{IsInRange};
+ghost use Rattle.um_num.specs.Numbers.{IsInRange, IsOutOfRange};
 ghost use Rattle.um_laws.specs.Rational.{add, neg};
-ghost use Rattle.um_lp.specs.Boards.{IsOutOfRange, StandsAt, resting};
-ghost use Rattle.um_lp.specs.States.{number_at};
+ghost use Rattle.um_lp.specs.Boards.{StandsAt, resting};
+ghost use Rattle.um_num.specs.NumberLists.{number_at};
 ghost use Rattle.um_tableau.specs.Rows.{AreBelow, AreDistinct};
+ghost use Rattle.um_tableau.specs.NarrowActs.{IsNarrowMove};
+ghost use Rattle.um_lp.specs.States.{end_at, number_of_end};
+ghost use Rattle.std.specs.Result.{IsOk};
 ghost use Rattle.um_tableau.specs.Sheets.{IsSheet, IsSpare, AreValuesMoved, IsMovedTo, KeepsAllButValues, KeepsAllButEnds, IsReboxed, standing_at, risen};
 
-use crate::fractions::difference;
 use crate::sheet::{Sheet, Spare, end_at, number_of};
 use crate::values::{move_basic, settle_basic};
 use um_lp::At;
@@ -63,9 +65,10 @@ impl Sheet {
         requires spare { IsSpare self.now spare.old }
         ensures spare { IsSpare self.now spare.new }
         ensures moved { OnOk result ((i : ℕ) → i < length self.now.entries.items → number_at spare.new.moved.items i ≡ risen self.now column (add end.now (neg (number_at self.now.values.items column))) i) }
+        ensures narrow { IsNarrowMove self.now column end.now → IsOk result }
         ensures wide { IfErr result IsOutOfRange }
     {
-        let rise = difference(end, &self.values[column])?;
+        let rise = end.sub(&self.values[column])?;
         move_basic(
             self.entries.as_slice(),
             self.basic.as_slice(),
@@ -86,6 +89,7 @@ impl Sheet {
         ensures others { OnOk result (KeepsAllButValues self.old self.new) }
         ensures kept { OnErr result (self.new ≡ self.old) }
         ensures spare { IsSpare self.old spare.new }
+        ensures narrow { IsNarrowMove self.old column end.now → IsOk result }
         ensures wide { IfErr result IsOutOfRange }
     {
         self.prepare_move(column, end, spare)?;
@@ -127,6 +131,7 @@ impl Sheet {
         ensures reboxed { OnOk result (IsReboxed self.old self.new column (low, high)) }
         ensures kept { OnErr result (self.new ≡ self.old) }
         ensures spare { IsSpare self.old spare.new }
+        ensures narrow { (standing_at self.old column ≢ At.Basic → (at : At) → StandsAt (standing_at self.old column) at (number_at self.old.reduced column) (low, high) → IsNarrowMove self.old column (number_of_end (end_at at (low, high)))) → IsOk result }
         ensures wide { IfErr result IsOutOfRange }
     {
         let before = self.at[column];

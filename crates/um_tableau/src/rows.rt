@@ -2,11 +2,13 @@
 
 ghost use Rattle.std.specs.Prelude.{◌≡◌, ◌≢◌, ℕ, ◌<◌, pos, length, IfErr, OnOk};
 ghost use Rattle.um_laws.specs.Rational.{whole};
-ghost use Rattle.um_lp.specs.Boards.{IsOutOfRange};
-ghost use Rattle.um_lp.specs.States.{number_at};
+ghost use Rattle.um_num.specs.Numbers.{IsOutOfRange};
+ghost use Rattle.um_num.specs.NumberLists.{number_at};
+ghost use Rattle.um_lp.specs.WideStates.{AreNarrow};
+ghost use Rattle.std.specs.Result.{IsOk};
 ghost use Rattle.um_tableau.specs.Rows.{row_at, entry_at, AreLong, IsNextLine};
 
-use crate::line::Line;
+use um_lines::Line;
 use um_num::Wide;
 
 /// Writes to `out` the line and the other, times the line's number at the column, where that is not 0.
@@ -16,6 +18,7 @@ pub fn next_line(own: &Line, column: usize, line: &Line, out: &mut Line) -> Resu
     requires out_fits { length out.old ≡ length own.now }
     ensures long { length out.new ≡ length own.now }
     ensures value { OnOk result (IsNextLine own.now column line.now out.new) }
+    ensures narrow { AreNarrow own.now → AreNarrow line.now → IsOk result }
     ensures wide { IfErr result IsOutOfRange }
 {
     if own.is_zero_at(column) {
@@ -54,6 +57,7 @@ pub fn next_rows(
     requires out_long { AreLong (length line.now) out.old }
     ensures out_long { AreLong (length line.now) out.new }
     ensures value { OnOk result ((i : ℕ) → i < length rows.now → i ≢ row → IsNextLine (row_at rows.now i) column line.now (row_at out.new i)) }
+    ensures narrow { ((i : ℕ) → i < length rows.now → AreNarrow (row_at rows.now i)) → AreNarrow line.now → IsOk result }
     ensures wide { IfErr result IsOutOfRange }
 {
     for i in 0..rows.len() {

@@ -3,16 +3,18 @@
 ghost use Rattle.std.specs.Prelude.{◌≡◌, ◌≢◌, ℕ, ◌<◌, ◌^◌, pos, length, slice_index, slice_set, IfOk, IfErr, OnOk, OnErr};
 ghost use Rattle.std.specs.Option.{ForSome};
 ghost use Rattle.um_laws.specs.Rational.{whole};
-ghost use Rattle.um_num.specs.Numbers.{IsInRange};
-ghost use Rattle.um_lp.specs.Boards.{IsOutOfRange};
-ghost use Rattle.um_lp.specs.States.{end_at, number_of_end, ends_of, number_at};
-ghost use Rattle.um_tableau.specs.Rows.{entry_at, AreBelow, AreDistinct};
+ghost use Rattle.um_num.specs.Numbers.{IsInRange, IsOutOfRange};
+ghost use Rattle.um_num.specs.NumberLists.{number_at};
+ghost use Rattle.um_lp.specs.States.{end_at, number_of_end, ends_of};
+ghost use Rattle.um_tableau.specs.Rows.{row_at, entry_at, AreBelow, AreDistinct};
+ghost use Rattle.um_lines.specs.Lines.{HasMinusOne};
+ghost use Rattle.um_tableau.specs.NarrowActs.{IsNarrowPivot};
+ghost use Rattle.std.specs.Result.{IsOk};
 ghost use Rattle.um_tableau.specs.Sheets.{IsSheet, IsSpare, IsPrepared, AreValuesAfter, IsPivoted, basic_at, standing_at, ends_at};
 
-use crate::fractions::{difference, quotient, sum};
-use crate::line::Line;
 use crate::lines::{SpareLines, next_lines, take_lines};
 use crate::values::{move_basic, settle_basic};
+use um_lines::Line;
 use um_lp::At;
 use um_num::{Frac, Wide};
 
@@ -118,16 +120,18 @@ impl Sheet {
         requires sheet { IsSheet self.now }
         requires row_in { row < length self.now.entries.items }
         requires column_in { column < length self.now.reduced }
+        requires own { HasMinusOne (row_at self.now.entries.items row) }
         requires not_zero { entry_at self.now.entries.items row column ≢ whole (pos 0) }
         requires spare { IsSpare self.now spare.old }
         ensures spare { IsSpare self.now spare.new }
         ensures prepared { IfOk result (λ entered. IsPrepared self.now row column end.now entered spare.new) }
+        ensures narrow { IsNarrowPivot self.now row column end.now → IsOk result }
         ensures wide { IfErr result IsOutOfRange }
     {
         let leaving = self.basic[row] as usize;
-        let lack = difference(end, &self.values[leaving])?;
-        let rise = quotient(&lack, &self.entries[row].get(column))?;
-        let entered = sum(&self.values[column], &rise)?;
+        let lack = end.sub(&self.values[leaving])?;
+        let rise = lack.div(&self.entries[row].get(column))?;
+        let entered = self.values[column].add(&rise)?;
         let entries = self.entries.as_slice();
         move_basic(
             entries,
@@ -193,11 +197,13 @@ impl Sheet {
         requires row_in { row < length self.old.entries.items }
         requires column_in { column < length self.old.reduced }
         requires nonbasic { standing_at self.old column ≢ At.Basic }
+        requires own { HasMinusOne (row_at self.old.entries.items row) }
         requires not_zero { entry_at self.old.entries.items row column ≢ whole (pos 0) }
         requires spare { IsSpare self.old spare.old }
         ensures pivoted { OnOk result (IsPivoted self.old self.new row column to (number_of_end (end_at to (ends_at self.old (basic_at self.old row))))) }
         ensures kept { OnErr result (self.new ≡ self.old) }
         ensures spare { IsSpare self.old spare.new }
+        ensures narrow { IsNarrowPivot self.old row column (number_of_end (end_at to (ends_at self.old (basic_at self.old row)))) → IsOk result }
         ensures wide { IfErr result IsOutOfRange }
     {
         let leaving = self.basic[row] as usize;

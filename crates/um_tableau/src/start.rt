@@ -3,12 +3,12 @@
 ghost use Rattle.std.specs.Prelude.{◌≡◌, ℕ, ◌+◌, ◌<◌, ◌≤◌, ◌++◌, ◌∷◌, [], pos, length, replicate, slice_index, slice_index_or, IfOk, OnOk, Some};
 ghost use Rattle.um_laws.specs.Rational.{whole};
 ghost use Rattle.um_lp.specs.States.{width, data_of, coefficient, system};
-ghost use Rattle.um_tableau.specs.Lines.{whole_at, AreInRange};
+ghost use Rattle.um_lines.specs.Lines.{whole_at, AreInRange};
 ghost use Rattle.um_tableau.specs.Starts.{bare, IsSystemRow, AreCosts, AreSystemRows, AreSlacks, AreFirstStatuses};
 
 use crate::given::Given;
-use crate::line::Line;
 use std::alloc::{AllocError, Global};
+use um_lines::Line;
 use um_lp::At;
 use um_num::Frac;
 
@@ -23,7 +23,7 @@ pub fn zero_line(alloc: Global, width: usize) -> Result<Line, AllocError>
     ensures { IfOk result (λ line. length line ≡ width) }
 {
     let nums = zeros(alloc, width)?;
-    Ok(Line::from_wholes(nums))
+    Line::from_wholes(alloc, nums)
 }
 
 /// Writes what the columns before the slacks have in a row.
@@ -70,7 +70,7 @@ fn system_row(alloc: Global, given: &Given, row: u32) -> Result<Line, AllocError
 {
     let mut nums = zeros(alloc, given.width() as usize)?;
     write_row(given, row, nums.as_mut_slice());
-    Ok(Line::from_wholes(nums))
+    Line::from_wholes(alloc, nums)
 }
 
 /// The costs of all columns.
@@ -79,7 +79,7 @@ pub fn first_costs(alloc: Global, given: &Given) -> Result<Line, AllocError>
 {
     let mut nums = zeros(alloc, given.width() as usize)?;
     write_costs(given, nums.as_mut_slice());
-    Ok(Line::from_wholes(nums))
+    Line::from_wholes(alloc, nums)
 }
 
 /// The rows of the system.

@@ -2,25 +2,27 @@
 
 ghost use Rattle.std.specs.Prelude.{◌≡◌, ◌≢◌, ℕ, ◌<◌, length, slice_index, IfOk, IfErr, OnOk};
 ghost use Rattle.um_laws.specs.Rational.{add, mul};
-ghost use Rattle.um_lp.specs.Boards.{IsOutOfRange};
-ghost use Rattle.um_lp.specs.States.{number_at};
+ghost use Rattle.um_num.specs.Numbers.{IsOutOfRange};
+ghost use Rattle.um_num.specs.NumberLists.{number_at};
+ghost use Rattle.um_num.specs.Sizes.{IsSmall};
+ghost use Rattle.std.specs.Result.{IsOk};
 ghost use Rattle.um_tableau.specs.Rows.{row_at, entry_at, AreLong, AreBelow, AreDistinct};
 
-use crate::fractions::{product, sum};
-use crate::line::Line;
+use um_lines::Line;
 use um_num::{Frac, Wide};
 
 /// The value of the basic column of a row after the nonbasic column has risen by `change`.
 fn moved(value: &Frac, line: &Line, column: usize, change: &Frac) -> Result<Frac, Wide>
     requires { column < length line.now }
     ensures value { IfOk result (λ moved. moved ≡ add value.now (mul (number_at line.now column) change.now)) }
+    ensures narrow { IsSmall value.now → IsSmall (add value.now (mul (number_at line.now column) change.now)) → IsOk result }
     ensures wide { IfErr result IsOutOfRange }
 {
     if change.is_zero() || line.is_zero_at(column) {
         return Ok(*value);
     }
-    let rise = product(&line.get(column), change)?;
-    sum(value, &rise)
+    let rise = line.get(column).mul(change)?;
+    value.add(&rise)
 }
 
 /// Writes to `out`, for each row, the value of its basic column after that.
@@ -38,6 +40,7 @@ pub fn move_basic(
     requires basic_in { AreBelow (length values.now) basic.now }
     requires out_fits { length out.old ≡ length rows.now }
     ensures value { OnOk result ((i : ℕ) → i < length rows.now → number_at out.new i ≡ add (number_at values.now (slice_index basic.now i)) (mul (entry_at rows.now i column) change.now)) }
+    ensures narrow { ((i : ℕ) → i < length rows.now → IsSmall (number_at values.now (slice_index basic.now i))) → ((i : ℕ) → i < length rows.now → IsSmall (add (number_at values.now (slice_index basic.now i)) (mul (entry_at rows.now i column) change.now))) → IsOk result }
     ensures wide { IfErr result IsOutOfRange }
 {
     for i in 0..rows.len() {

@@ -1,5 +1,8 @@
-use Rattle.std.proofs.Common.{subst, arith}
+use Rattle.std.proofs.Common.{subst, arith, ◌-◌, ◌<◌, ◌^◌}
 use Rattle.um_lp.specs.DualSteps.{IsNext}
+use Rattle.um_lp.specs.States.{width}
+use Rattle.um_dual.specs.Used.{is_used, count_below}
+use Rattle.um_dual.proofs.CountingUsed.{few_used_steps}
 use Rattle.um_dual.specs.Methods.{next_of}
 use Rattle.um_dual.specs.declared.method.Choice.{Choice}
 use Rattle.um_dual.proofs.Feasible.{step_feasible, next_not_zero, more_steps}
@@ -25,3 +28,12 @@ steps-preserved g c =
       feasible = step_feasible s t c.in-Ok-Pivot.row c.in-Ok-Pivot.column c.in-Ok-Pivot.to (g.met.B.Board.belongs c.steps.board) c.steps.invariant.feasible next pivot;
       keeps = g.met.B.Board.keeps_trans c.args.board.now c.steps.board c.pivot.new.self c.steps.invariant.keeps c.pivot.ensures.keeps;
     }
+
+-- a run has fewer steps than there are ways to stand, so that with so many left one is left
+pub returns-then-left-eq0-clause-enough : goal.returns-then-left-eq0-clause-enough
+returns-then-left-eq0-clause-enough g c enough same =
+    let s = g.B.Board.state c.args.board.now in
+    let t = g.B.Board.state c.steps.board in
+    let few : c.args.left.now - c.steps.left < 3 ^ count_below (width s.frame) (is_used s) = few_used_steps (c.args.left.now - c.steps.left) s t c.steps.invariant.steps (g.met.B.Board.belongs c.args.board.now) c.requires in
+    let none = c.if-left-eq0.true in
+    omega arith

@@ -1,6 +1,6 @@
 use Rattle.std.proofs.Common.{List, length, slice_set, arith, ◌∙◌, ap}
 use Rattle.um_laws.specs.Rational.{Rational, add, mul}
-use Rattle.um_lp.specs.States.{number_at}
+use Rattle.um_num.specs.NumberLists.{number_at}
 use Rattle.um_tableau.specs.Rows.{row_at, entry_at}
 use Rattle.um_tableau.proofs.Taken.{taken_line, taken_rows}
 use Rattle.um_tableau.proofs.lines.take_lines.Goals as goal

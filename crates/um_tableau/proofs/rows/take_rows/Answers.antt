@@ -1,7 +1,7 @@
 use Rattle.std.proofs.Common.{List, [], length, arith, sym, ◌∙◌, ap}
 use Rattle.std.proofs.lemmas.List.{get_or_default}
 use Rattle.um_laws.specs.Rational.{Rational}
-use Rattle.um_lp.specs.States.{number_at}
+use Rattle.um_num.specs.NumberLists.{number_at}
 use Rattle.um_tableau.proofs.RowSteps.{taken_skip, taken_step}
 use Rattle.um_tableau.proofs.rows.take_rows.Goals as goal
 use Rattle.um_tableau.proofs.rows.take_rows.Goals.{then-i-row, else-i-row}

@@ -1,7 +1,7 @@
 use Rattle.std.proofs.Common.{◌≡◌, ℕ, ◌<◌, ◌≤◌, pos}
 use Rattle.std.specs.Prelude.{slice_index_or}
 use Rattle.um_lp.specs.States.{coefficient, no_data}
-use Rattle.um_tableau.specs.Lines.{whole_at, AreInRange}
+use Rattle.um_lines.specs.Lines.{whole_at, AreInRange}
 use Rattle.um_tableau.proofs.start.write_coefficients.Given as goal
 
 -- the columns so far are written, and all others are 0

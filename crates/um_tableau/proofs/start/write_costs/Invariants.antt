@@ -1,5 +1,5 @@
 use Rattle.std.proofs.Common.{◌≡◌, ℕ, ◌<◌, ◌≤◌, pos}
-use Rattle.um_tableau.specs.Lines.{whole_at, AreInRange}
+use Rattle.um_lines.specs.Lines.{whole_at, AreInRange}
 use Rattle.um_tableau.proofs.start.write_costs.Given as goal
 
 -- the costs so far are written, and all others are 0

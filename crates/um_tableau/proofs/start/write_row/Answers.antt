@@ -1,6 +1,6 @@
 use Rattle.std.proofs.Common.{ℕ, ◌+◌, negsuc, slice_set, arith, ap, ◌∙◌}
 use Rattle.um_laws.specs.Rational.{whole}
-use Rattle.um_tableau.specs.Lines.{whole_at}
+use Rattle.um_lines.specs.Lines.{whole_at}
 use Rattle.um_tableau.proofs.Starting.{system_at}
 use Rattle.um_tableau.proofs.start.write_row.Goals as goal
 

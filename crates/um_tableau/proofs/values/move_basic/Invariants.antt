@@ -1,7 +1,7 @@
 use Rattle.std.proofs.Common.{◌≡◌, ℕ, ◌<◌}
 use Rattle.std.specs.Prelude.{slice_index}
 use Rattle.um_laws.specs.Rational.{add, mul}
-use Rattle.um_lp.specs.States.{number_at}
+use Rattle.um_num.specs.NumberLists.{number_at}
 use Rattle.um_tableau.specs.Rows.{entry_at}
 use Rattle.um_tableau.proofs.values.move_basic.Given as goal
 

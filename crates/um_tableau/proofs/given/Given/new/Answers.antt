@@ -3,7 +3,7 @@ use Rattle.std.specs.Prelude.{ℤ, List}
 use Rattle.um_num.specs.Listed.{Listed}
 use Rattle.um_lp.specs.declared.relaxation.Term.{Term}
 use Rattle.um_tableau.specs.Frames.{items_of}
-use Rattle.um_tableau.specs.Lines.{AreInRange}
+use Rattle.um_lines.specs.Lines.{AreInRange}
 use Rattle.um_tableau.proofs.Coefficients.{in_range_at, rising_terms}
 use Rattle.um_tableau.proofs.FrameLemmas.{length-columns_of, length-same, frame_is}
 use Rattle.um_tableau.proofs.given.Given.new.Goals as goal

@@ -2,7 +2,7 @@ use Rattle.std.proofs.Common.{ℕ, List, slice_set, arith, ◌∙◌, ap, sym, r
 use Rattle.std.proofs.lemmas.List.{get_or_default, with_items_is}
 use Rattle.um_laws.specs.Rational.{Rational, add, mul}
 use Rattle.um_lp.specs.Basis.{pivot_line, pivot_entry}
-use Rattle.um_lp.specs.States.{number_at}
+use Rattle.um_num.specs.NumberLists.{number_at}
 use Rattle.um_tableau.specs.Rows.{entry_at}
 use Rattle.um_lp.specs.declared.board.At.{At}
 use Rattle.um_lp.specs.declared.board.At.TheVariants.{Basic}

@@ -1,4 +1,5 @@
-use Rattle.um_tableau.proofs.LineValues.{on_ok}
+use Rattle.um_tableau.proofs.RefusedActs.{own_minus_one, pivot_refused}
+use Rattle.um_lines.proofs.LineValues.{on_ok}
 use Rattle.um_tableau.proofs.BoardActs.{sheet_of, pivot_is, by_result, Keeps, keeps_still, keeps_pivot}
 use Rattle.um_tableau.proofs.tableau.TableauBoard.pivot.Goals as goal
 
@@ -21,3 +22,12 @@ returns-clause-ok c =
     let t = c.args.self.now in
     let r = c.requires in
     on_ok c.pivot.result c.pivot.ensures.pivoted (λ p. pivot_is t.given t.sheet c.pivot.new.self c.args.row c.args.column c.args.to t.stands r.row_in r.column_in r.nonbasic r.not_zero r.finite p)
+
+pub pivot-requires-clause-own : goal.pivot-requires-clause-own
+pivot-requires-clause-own c = let t = c.args.self.now in own_minus_one t.given t.sheet c.args.row t.stands c.requires.row_in
+
+pub returns-clause-wide : goal.returns-clause-wide
+returns-clause-wide c =
+    let t = c.args.self.now in
+    let r = c.requires in
+    pivot_refused t.given t.sheet c.args.row c.args.column c.args.to c.pivot.result t.stands r.row_in r.column_in r.nonbasic r.not_zero r.finite c.pivot.ensures.wide c.pivot.ensures.narrow

@@ -1,5 +1,6 @@
+use Rattle.um_tableau.proofs.RefusedActs.{rebox_refused}
 use Rattle.std.proofs.Common.{arith}
-use Rattle.um_tableau.proofs.LineValues.{on_ok}
+use Rattle.um_lines.proofs.LineValues.{on_ok}
 use Rattle.um_tableau.proofs.BoardActs.{sheet_of, rebox_is, by_result, Keeps, keeps_still, keeps_rebox}
 use Rattle.um_tableau.proofs.tableau.TableauBoard.rebox.Goals as goal
 
@@ -21,3 +22,8 @@ pub returns-clause-ok : goal.returns-clause-ok
 returns-clause-ok c =
     let t = c.args.self.now in
     on_ok c.rebox.result c.rebox.ensures.reboxed (λ p. rebox_is t.given t.sheet c.rebox.new.self c.args.column (c.args.low, c.args.high) t.stands c.requires.column_in p)
+
+pub returns-clause-wide : goal.returns-clause-wide
+returns-clause-wide c =
+    let t = c.args.self.now in
+    rebox_refused t.given t.sheet c.args.column (c.args.low, c.args.high) c.rebox.result t.stands c.requires.column_in c.rebox.ensures.wide c.rebox.ensures.narrow

@@ -1,0 +1,9 @@
+pub mod Turned
+pub mod ShortSums
+pub mod Wholes
+pub mod Shorts
+pub mod LineNumbers
+pub mod Lowests
+pub mod Guesses
+pub mod HeldSums
+pub mod LineValues

@@ -1,0 +1,4 @@
+pub mod Lines
+pub mod Combined
+pub mod Turns
+pub mod Nums
