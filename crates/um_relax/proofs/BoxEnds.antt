@@ -14,8 +14,9 @@ use Rattle.um_deck.proofs.FirstDeckLemmas.{all_at}
 use Rattle.um_lp.specs.Boards.{AreOrdered}
 use Rattle.um_deck.specs.Decks.{IsDeckNow}
 use Rattle.um_lp.specs.declared.relaxation.Relaxation.{Relaxation}
-use Rattle.um_relax.specs.Relaxed.{side_end, IsRelaxationOf}
-use Rattle.um_relax.specs.Boxed.{row_ends, ends_on}
+use Rattle.um_duality.specs.Relaxed.{side_end}
+use Rattle.um_relax.specs.Relaxations.{IsRelaxationOf}
+use Rattle.um_duality.specs.Boxed.{row_ends, ends_on}
 
 -- ---- columns
 at_most_or : (a b : ℤ) → (a ≤ℤ b) ⊎ (b <ℤ a)

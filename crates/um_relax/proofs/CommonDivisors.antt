@@ -1,81 +1,17 @@
--- The least common denominator is least, and what divides all whole multiples of fractions of which one is 1 or -1.
+-- What divides all whole multiples of fractions of which one is 1 or -1.
 use Rattle.std.proofs.Common.{◌≡◌, ℕ, zero, suc, ◌*◌, ◌/◌, ◌<◌, List, [], ◌∷◌, length, get_or, arith, sym, ap, ◌∙◌, subst}
 use Rattle.std.specs.Prelude.{ℤ, pos, unsigned_abs}
-use Rattle.std.specs.Int.{IsGcd, ◌∣◌}
+use Rattle.std.specs.Int.{◌∣◌}
 use Rattle.std.proofs.lemmas.Int.{unsigned_abs-mul}
 use Rattle.std.proofs.lemmas.List.{get_or-map, length-map}
-use Rattle.std.proofs.Math.Nat.{div-mul_cancel, dvd_trans, dvd-mul_right, dvd-mul_left, mul-dvd-mul_right, dvd_of_mul-dvd-mul_right}
+use Rattle.std.proofs.Math.Nat.{div-mul_cancel, dvd_trans}
 use native.Mathlib.Nat.{eq-one_of_dvd-one, pos_of_dvd_of_pos, eq_of_mul-eq-mul_left}
-use Rattle.um_laws.specs.Divisors.{gcd, Coprime}
-use Rattle.um_laws.specs.LowestTerms.{gcd_is, gcd_pos}
+use Rattle.um_laws.specs.LowestTerms.{gcd_is}
 use Rattle.um_laws.proofs.Coprime.{gauss, coprime_swap}
 use Rattle.um_laws.specs.Rational.{Rational}
-use Rattle.um_lp.specs.WideStates.{common, common_denominator}
-use Rattle.um_relax.specs.WholeMultiples.{times, whole_multiples, common_divisor}
-use Rattle.um_relax.proofs.Denominators.{denominator_positive}
-
--- ---- quotients
-quotient_of : (a m : ℕ) → a ∣ m → (k : ℕ) × (m ≡ a * k)
-quotient_of a m d = (m / a, let e = div-mul_cancel a d in omega arith)
-
--- a product is divided by its factor
-divides_from : (a m k : ℕ) → m ≡ a * k → a ∣ m
-divides_from a m k e = subst (λ (z : ℕ). a ∣ z) (sym e) (dvd-mul_right a k)
-
--- ---- the least common multiple
--- what is left of two numbers over their greatest common divisor has no common divisor
-lowest_coprime : (a b : ℕ) → 0 < b → Coprime (a / gcd a b) (b / gcd a b)
-lowest_coprime a b p k h1 h2 =
-    let g : ℕ = gcd a b in
-    let G : IsGcd a b g = gcd_is a b in
-    let x : k * g ∣ a = subst (λ (x : ℕ). k * g ∣ x) (div-mul_cancel g G.0) (mul-dvd-mul_right k h1 g) in
-    let y : k * g ∣ b = subst (λ (x : ℕ). k * g ∣ x) (div-mul_cancel g G.1) (mul-dvd-mul_right k h2 g) in
-    let z : k * g ∣ g = G.2 (k * g) x y in
-    let z' : k * g ∣ 1 * g = subst (λ (x : ℕ). k * g ∣ x) (omega arith) z in
-    eq-one_of_dvd-one (dvd_of_mul-dvd-mul_right k (gcd_pos a b p) z')
-
--- with a = g * p and b = g * q, from a * x = b * y
-cancelled : (a b g p q x y : ℕ) → 0 < g → p * g ≡ a → q * g ≡ b → a * x ≡ b * y → q * y ≡ p * x
-cancelled a b g p q x y l e f h =
-    eq_of_mul-eq-mul_left g l (q * y) (p * x)
-    (let l1 : g * (q * y) ≡ b * y = (let s : g * (q * y) ≡ (q * g) * y = omega arith in s) ∙ ap (λ (z : ℕ). z * y) f in
-    let l2 : g * (p * x) ≡ a * x = (let s : g * (p * x) ≡ (p * g) * x = omega arith in s) ∙ ap (λ (z : ℕ). z * x) e in
-    l1 ∙ sym h ∙ sym l2)
-
--- the least common multiple divides each common multiple
-common_divides : (a b m : ℕ) → 0 < b → a ∣ m → b ∣ m → common a b ∣ m
-common_divides a b m l ax by =
-    let x : ℕ = (quotient_of a m ax).0 in
-    let e : m ≡ a * x = (quotient_of a m ax).1 in
-    let y : ℕ = (quotient_of b m by).0 in
-    let f : m ≡ b * y = (quotient_of b m by).1 in
-    let g : ℕ = gcd a b in
-    let G : IsGcd a b g = gcd_is a b in
-    let p : ℕ = a / g in
-    let q : ℕ = b / g in
-    let k : (n : ℕ) × (y ≡ p * n) = gauss p q y x (lowest_coprime a b l) (cancelled a b g p q x y (gcd_pos a b l) (div-mul_cancel g G.0) (div-mul_cancel g G.1) (sym e ∙ f)) in
-    divides_from (common a b) m k.0 (f ∙ ap (λ (z : ℕ). b * z) k.1 ∙ (let s : b * (p * k.0) ≡ (p * b) * k.0 = omega arith in s))
-
--- both divide it
-left_divides : (a b : ℕ) → a ∣ common a b
-left_divides a b =
-    let g : ℕ = gcd a b in
-    let G : IsGcd a b g = gcd_is a b in
-    by g (a / g) (b / g) (div-mul_cancel g G.0) (div-mul_cancel g G.1)
-  where
-    by : (g p q : ℕ) → p * g ≡ a → q * g ≡ b → a ∣ p * b
-    by g p q e f = divides_from a (p * b) q (ap (λ (z : ℕ). p * z) (sym f) ∙ (let s : p * (q * g) ≡ (p * g) * q = omega arith in s) ∙ ap (λ (z : ℕ). z * q) e)
-
--- each denominator divides the common one
-pub den_divides : (xs : List Rational) (i : ℕ) (x : Rational) → i < length xs → (get_or xs i x).den ∣ common_denominator xs
-den_divides [] i x l = absurd (omega arith)
-den_divides (y ∷ xs) zero x l = left_divides y.den (common_denominator xs)
-den_divides (y ∷ xs) (suc i) x l = dvd_trans _ (den_divides xs i x (omega arith)) (dvd-mul_left (common_denominator xs) (y.den / gcd y.den (common_denominator xs)))
-
--- and it divides each number that they all divide
-denominator_divides : (xs : List Rational) (m : ℕ) → ((i : ℕ) (x : Rational) → i < length xs → (get_or xs i x).den ∣ m) → common_denominator xs ∣ m
-denominator_divides [] m h = divides_from 1 m m (omega arith)
-denominator_divides (y ∷ xs) m h = common_divides y.den (common_denominator xs) m (denominator_positive xs) (h 0 y (omega arith)) (denominator_divides xs m (λ i x l. h (suc i) x (omega arith)))
+use Rattle.um_lp.specs.WideStates.{common_denominator}
+use Rattle.um_lp.proofs.Denominators.{denominator_positive, quotient_of, divides_from, den_divides, denominator_divides}
+use Rattle.um_duality.specs.WholeMultiples.{times, whole_multiples, common_divisor}
 
 -- ---- common divisors
 divides_each : (zs : List ℤ) (i : ℕ) → i < length zs → common_divisor zs ∣ unsigned_abs (get_or zs i (pos 0))

@@ -17,20 +17,24 @@ use Rattle.um_num.proofs.Parts.{zero_parts}
 use Rattle.um_lp.specs.Basis.{sum_below}
 use Rattle.um_lp.specs.Boards.{IsBoard}
 use Rattle.um_lp.specs.DualSteps.{Harms, Leaves}
-use Rattle.um_lp.specs.States.{State, slack, basic_of, entry_of, number_at, system}
+use Rattle.um_num.specs.NumberLists.{number_at}
+use Rattle.um_lp.specs.States.{State, slack, basic_of, entry_of, system}
 use Rattle.um_lp.specs.WideStates.{common_denominator}
 use Rattle.um_lp.specs.declared.board.At.{At}
 use Rattle.um_lp.specs.declared.board.At.TheVariants.{Lower, Upper, Zero, Basic}
-use Rattle.um_lp.proofs.Equations.{by_ring}
+use Rattle.um_laws.proofs.RationalEquations.{by_ring}
 use Rattle.um_lp.proofs.Sums.{sum-none}
 use Rattle.um_relax.specs.Parts.{IsSide, AreSlackEntries, IsSigned, IsDivisor, IsWholeOf}
 use Rattle.um_relax.specs.declared.whole.Whole.{Whole}
-use Rattle.um_model.specs.declared.multipliers.Price.{Price}
+use Rattle.um_multipliers.specs.declared.multipliers.Price.{Price}
 use Rattle.um_relax.proofs.NormalPrices.{prices_below}
-use Rattle.um_relax.specs.Readings.{turned, AreFarkasNumbers, AreFarkas, AreBelow, HasLargeFarkas}
-use Rattle.um_relax.specs.WholeMultiples.{times, whole_multiples, AreSmall, prices_from}
-use Rattle.um_relax.proofs.CommonDivisors.{den_divides, multiples_coprime}
-use Rattle.um_relax.proofs.Denominators.{denominator_positive}
+use Rattle.um_duality.specs.Readings.{turned, AreFarkasNumbers, AreFarkas}
+use Rattle.um_relax.specs.Limits.{HasLargeFarkas}
+use Rattle.um_multipliers.specs.Sizes.{AreBelow}
+use Rattle.um_duality.specs.WholeMultiples.{times, whole_multiples, prices_from}
+use Rattle.um_relax.specs.Limits.{AreSmall}
+use Rattle.um_lp.proofs.Denominators.{den_divides, denominator_positive}
+use Rattle.um_relax.proofs.CommonDivisors.{multiples_coprime}
 
 -- ---- signs
 neg_positive : (x : Rational) → x.num <ℤ pos 0 → IsPositive (neg x)

@@ -15,7 +15,8 @@ use Rattle.um_lp.specs.States.{ColumnData, Frame, width}
 use Rattle.um_lp.specs.Relaxations.{columns_of, frame_of, AreTerms, IsRelaxation}
 use Rattle.um_lp.specs.declared.relaxation.Term.{Term}
 use Rattle.um_lp.specs.declared.relaxation.Relaxation.{Relaxation}
-use Rattle.um_relax.specs.Relaxed.{term_of, side_end, IsRelaxationOf, column_data, deck_frame}
+use Rattle.um_duality.specs.Relaxed.{term_of, side_end, column_data, deck_frame}
+use Rattle.um_relax.specs.Relaxations.{IsRelaxationOf}
 
 -- what the parts of the relaxation are, made of these columns and rows
 pub record IsMadeOf (columns : List Column) (rows : List Row) (r : Relaxation) : Type 0 where

@@ -6,15 +6,16 @@ use Rattle.std.proofs.lemmas.Int.{ints}
 use Rattle.std.proofs.lemmas.Bool.{cond-false, ne_eqb}
 use Rattle.um_relax.specs.Parts.{IsPrice, IsLeastDenominator, IsTimes, IsWholeOf}
 use Rattle.um_relax.specs.declared.whole.Whole.{Whole}
-use Rattle.um_relax.specs.Readings.{AreBelow}
+use Rattle.um_multipliers.specs.Sizes.{AreBelow}
 use Rattle.std.specs.Int.{w128}
 use Rattle.std.proofs.lemmas.List.Elements.{All-append}
 use Rattle.um_num.proofs.Parts.{from_bits}
-use Rattle.um_relax.proofs.Denominators.{denominator_positive}
+use Rattle.um_lp.proofs.Denominators.{denominator_positive}
 use Rattle.um_laws.specs.Rational.{Rational}
-use Rattle.um_model.specs.declared.multipliers.Price.{Price}
+use Rattle.um_multipliers.specs.declared.multipliers.Price.{Price}
 use Rattle.um_lp.specs.WideStates.{common_denominator}
-use Rattle.um_relax.specs.WholeMultiples.{times, whole_multiples, prices_from, AreSmall}
+use Rattle.um_duality.specs.WholeMultiples.{times, whole_multiples, prices_from}
+use Rattle.um_relax.specs.Limits.{AreSmall}
 
 -- ---- normal form
 if_append : (b : Bool) (qs ts : List Price) (p : Price) → (if b then qs ++ ts else p ∷ (qs ++ ts)) ≡ (if b then qs else p ∷ qs) ++ ts

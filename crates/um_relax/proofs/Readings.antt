@@ -8,9 +8,9 @@ use Rattle.um_laws.proofs.RationalField.{is_whole}
 use Rattle.um_num.proofs.Parts.{zero_parts}
 use Rattle.um_num.specs.Views.{rational}
 use Rattle.um_num.specs.declared.exact.Wide.{Wide}
-use Rattle.um_relax.specs.Readings.{natural}
+use Rattle.um_duality.specs.Readings.{natural}
 use Rattle.std.proofs.lemmas.Int.{ints}
-use Rattle.um_lp.specs.States.{number_at}
+use Rattle.um_num.specs.NumberLists.{number_at}
 
 -- one number more, of those that stand from place n on
 pub read_next : (xs numbers : List Rational) (n i : ℕ) (x : Rational) → n + i < length xs → x ≡ number_at xs (n + i) → numbers ≡ take i (drop n xs) → numbers ++ x ∷ [] ≡ take (i + 1) (drop n xs)

@@ -6,12 +6,14 @@ use Rattle.std.proofs.lemmas.List.{get_or-set_same, get_or-set_other}
 use Rattle.um_laws.specs.Rational.{Rational}
 use Rattle.um_model.specs.Values.{DeckValue}
 use Rattle.um_model.specs.Boxes.{BoxValue}
-use Rattle.um_lp.specs.States.{State, width, at_of, ends_of, reduced_of, number_at}
+use Rattle.um_num.specs.NumberLists.{number_at}
+use Rattle.um_lp.specs.States.{State, width, at_of, ends_of, reduced_of}
 use Rattle.um_lp.specs.Boards.{IsShaped, IsRebox, StandsAt, AreOrdered, IsWantedEndFinite, resting}
 use Rattle.um_lp.specs.DualSteps.{IsDualFeasibleAt}
 use Rattle.um_lp.specs.declared.board.At.{At}
 use Rattle.um_lp.specs.declared.board.At.TheVariants.{Lower, Upper, Zero, Basic}
-use Rattle.um_relax.specs.Boxed.{AreReboxed, BoxedWhole, WantsFiniteEnds, ends_on}
+use Rattle.um_relax.specs.Reboxings.{AreReboxed, BoxedWhole, WantsFiniteEnds}
+use Rattle.um_duality.specs.Boxed.{ends_on}
 
 -- ---- what the columns below n have got, and what has stayed
 pub record HasGot (d : DeckValue) (b : BoxValue) (s t : State) (j : ℕ) : Type 0 where

@@ -1,6 +1,5 @@
-pub mod Boxed
-pub mod Laws
+pub mod Limits
 pub mod Parts
-pub mod Readings
-pub mod Relaxed
-pub mod WholeMultiples
+pub mod Reboxings
+pub mod Refusals
+pub mod Relaxations

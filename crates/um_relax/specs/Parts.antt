@@ -1,16 +1,15 @@
 -- What the parts of the readings give.
 use Rattle.std.specs.Prelude.{◌≡◌, ◌≢◌, ℕ, ◌<◌, ℤ, pos, ◌*ℤ◌, unsigned_abs, List, length, ◌⊎◌, ⊤}
 use Rattle.um_laws.specs.Rational.{Rational, neg}
-use Rattle.um_model.specs.declared.multipliers.Price.{Price}
-use Rattle.um_lp.specs.Boards.{IsOutOfRange}
+use Rattle.um_multipliers.specs.declared.multipliers.Price.{Price}
 use Rattle.um_lp.specs.DualSteps.{Harms}
-use Rattle.um_lp.specs.States.{State, number_at, entry_of, slack}
+use Rattle.um_num.specs.NumberLists.{number_at}
+use Rattle.um_lp.specs.States.{State, entry_of, slack}
 use Rattle.um_lp.specs.WideStates.{common, common_denominator}
 use Rattle.um_lp.specs.declared.board.At.{At}
 use Rattle.um_lp.specs.declared.board.At.TheVariants.{Lower, Upper, Zero, Basic}
-use Rattle.um_relax.specs.WholeMultiples.{times, whole_multiples, AreSmall}
-use Rattle.um_relax.specs.declared.prices.Large.{Large}
-use Rattle.um_relax.specs.declared.prices.Large.TheVariants as large
+use Rattle.um_duality.specs.WholeMultiples.{times, whole_multiples}
+use Rattle.um_relax.specs.Limits.{AreSmall}
 use Rattle.um_relax.specs.declared.whole.Whole.{Whole}
 
 -- ---- whole multiples
@@ -49,14 +48,6 @@ AreTooLarge limit numbers = ¬ AreSmall limit numbers
 pub record IsPrice (row : ℕ) (value : ℤ) (price : Price) : Type 0 where
   pub nonzero : value ≢ pos 0
   pub is : price ≡ record { row = row; value = value }
-
--- ---- refusals
-
--- a reading has failed for another reason than a number too large for a tree
-abbrev pub IsFailure : Large → Type 0
-IsFailure large.Large = ⊥
-IsFailure (large.Wide w) = IsOutOfRange w
-IsFailure large.Memory = ⊤
 
 -- ---- the row without a point
 

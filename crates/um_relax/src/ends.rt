@@ -1,13 +1,15 @@
 //! The ends of a box on a board.
 
 ghost use Rattle.std.specs.Prelude.{◌≡◌, ◌+◌, ◌<◌, length};
-ghost use Rattle.um_deck.specs.Decks.{IsPlain};
+ghost use Rattle.um_deck.specs.Decks.{HasNoSetsOrArcs};
 ghost use Rattle.um_model.specs.Boxes.{IsVoid};
-ghost use Rattle.um_relax.specs.Relaxed.{IsRelaxationOf, StandsFor};
 ghost use Rattle.std.specs.Option.{ForSome};
 ghost use Rattle.um_lp.specs.Boards.{AreOrdered};
 ghost use Rattle.um_num.specs.Numbers.{IsInRange};
-ghost use Rattle.um_relax.specs.Boxed.{WantsFiniteEnds, IsReboxed, ends_on};
+ghost use Rattle.um_duality.specs.Boxed.{ends_on};
+ghost use Rattle.um_duality.specs.Relaxed.{StandsFor};
+ghost use Rattle.um_relax.specs.Reboxings.{WantsFiniteEnds, IsReboxed};
+ghost use Rattle.um_relax.specs.Relaxations.{IsRelaxationOf};
 
 use crate::making::wide;
 use um_box::NodeBox;
@@ -29,7 +31,7 @@ pub enum Reboxed {
 /// then. The relaxation stays as it is, as a deck without arcs has no grid.
 pub fn rebox<B: Board>(relaxation: &mut Relaxation, board: &mut B, node: &NodeBox<'_>) -> Reboxed
     requires relaxed { IsRelaxationOf node.now.deck relaxation.old }
-    requires plain { IsPlain node.now.deck }
+    requires no_sets_or_arcs { HasNoSetsOrArcs node.now.deck }
     requires stands { StandsFor node.now.deck (B.state board.old) }
     requires full { ¬ IsVoid node.now.deck node.now.limits }
     requires wanted { WantsFiniteEnds node.now.deck node.now.limits (B.state board.old) }

@@ -1,23 +1,26 @@
 //! The multipliers of a board that has ended without a point.
 
-ghost use Rattle.std.specs.Prelude.{◌≡◌, ◌≢◌, ◌^◌, ◌<◌, pos, [], All, map, length, ◌↔◌, IsTrue, IfOk, IfErr};
-ghost use Rattle.std.specs.Option.{MatchOption, ForSome};
+ghost use Rattle.std.specs.Prelude.{◌≡◌, ◌≢◌, ◌^◌, ◌<◌, pos, [], All, map, length, IfOk, IfErr};
+ghost use Rattle.std.specs.Option.{MatchOption};
 ghost use Rattle.um_laws.specs.Rational.{Rational, whole, mul, inverse};
-ghost use Rattle.um_num.specs.Fractions.{IsBelow};
-ghost use Rattle.um_num.specs.Numbers.{IsInRange};
-ghost use Rattle.um_lp.specs.Boards.{IsOutOfRange};
-ghost use Rattle.um_lp.specs.DualSteps.{IsNext, NoPoint, Leaves, IsBelowEnd, Harms};
+ghost use Rattle.um_num.specs.Sizes.{IsSmall};
+ghost use Rattle.um_lp.specs.DualSteps.{IsNext, NoPoint, Leaves};
+ghost use Rattle.um_lp.specs.Refusals.{IsRefusedAt};
 ghost use Rattle.um_lp.specs.Relaxations.{frame_of};
-ghost use Rattle.um_model.specs.Values.{plain_multipliers};
-ghost use Rattle.um_relax.specs.Parts.{IsFailure, IsSide, IsSigned, IsDivisor, AreSlackEntries};
-ghost use Rattle.um_relax.specs.Readings.{AreFarkas, HasLargeFarkas, AreBelow, IsRefusedReading};
+ghost use Rattle.um_lp.specs.States.{State};
+ghost use Rattle.um_lp.specs.WideStates.{numbers_of, AreNarrow};
+ghost use Rattle.um_multipliers.specs.PlainMultipliers.{plain_multipliers};
+ghost use Rattle.um_duality.specs.Readings.{AreFarkas};
+ghost use Rattle.um_relax.specs.Limits.{HasLargeFarkas};
+ghost use Rattle.um_multipliers.specs.Sizes.{AreBelow};
+ghost use Rattle.um_relax.specs.Parts.{IsSide, IsSigned, IsDivisor, AreSlackEntries};
+ghost use Rattle.um_relax.specs.Refusals.{IsRefusedReading, IsFailure};
 
-use crate::fractions::quotient;
-use crate::prices::{Large, MOST_MULTIPLIER, first_slack};
+use crate::large::Large;
+use crate::row_multipliers::{MOST_MULTIPLIER, first_slack};
 use crate::whole::{least_whole, normal};
 use std::alloc::Global;
-use std::cmp::Ordering;
-use um_lp::{At, Board, Multipliers, Relaxation, Wide};
+use um_lp::{At, Board, Multipliers, Relaxation, Wide, harms, is_below_end};
 use um_num::{Frac, List};
 
 /// The multipliers of Farkas, where no column may enter for this row: its entries at the slacks, as
@@ -34,7 +37,7 @@ pub fn farkas<B: Board>(
     requires no_point { IsNext (B.state board.now) (NoPoint row) }
     ensures value { IfOk result (λ y. AreFarkas (B.state board.now) row (plain_multipliers y)) }
     ensures small { IfOk result (λ y. AreBelow (2 ^ 40) (plain_multipliers y)) }
-    ensures refused { IfErr result (IsRefusedReading (HasLargeFarkas (2 ^ 40) (B.state board.now) row)) }
+    ensures refused { IfErr result (IsRefusedReading (B.state board.now) (HasLargeFarkas (2 ^ 40) (B.state board.now) row)) }
 {
     let to = leaves_to(board, row)?;
     let entries = slack_entries(alloc, relaxation, board, row)?;
@@ -56,7 +59,7 @@ fn leaves_to<B: Board>(board: &B, row: u32) -> Result<At, Wide>
     requires { IsNext (B.state board.now) (NoPoint row) }
     ensures to { IfOk result (Leaves (B.state board.now) row) }
     ensures side { IfOk result IsSide }
-    ensures wide { IfErr result IsOutOfRange }
+    ensures wide { IfErr result (IsRefusedAt (B.state board.now)) }
 {
     let column = board.basic(row);
     let (low, _high) = board.ends(column);
@@ -65,26 +68,6 @@ fn leaves_to<B: Board>(board: &B, row: u32) -> Result<At, Wide>
         Ok(At::Lower)
     } else {
         Ok(At::Upper)
-    }
-}
-
-/// The value is below its low end.
-fn is_below_end(low: Option<i128>, value: &Frac) -> bool
-    requires { ForSome low IsInRange }
-    ensures { IsTrue result ↔ IsBelowEnd low value.now }
-{
-    match low {
-        Some(end) => is_below(value, &Frac::new(end, 1)),
-        None => false,
-    }
-}
-
-fn is_below(x: &Frac, y: &Frac) -> bool
-    ensures { IsTrue result ↔ IsBelow x.now y.now }
-{
-    match x.compare(y) {
-        Ordering::Less => true,
-        Ordering::Equal | Ordering::Greater => false,
     }
 }
 
@@ -100,7 +83,7 @@ fn slack_entries<B: Board>(
     requires row { row < (B.state board.now).frame.rows }
     ensures value { IfOk result (λ entries. AreSlackEntries (B.state board.now) row (B.state board.now).frame.rows entries.items) }
     ensures short { IfOk result (λ entries. length entries.items < 2 ^ 32) }
-    ensures refused { IfErr result IsFailure }
+    ensures refused { IfErr result (IsFailure (B.state board.now)) }
 {
     let first = first_slack(relaxation, board);
     let mut entries = List::new(alloc);
@@ -138,26 +121,15 @@ fn signed(to: At, entry: &Frac) -> Frac
     }
 }
 
-/// The number is below 0 for the low end, or above it for the high end.
-fn harms(to: At, entry: &Frac) -> bool
-    ensures { IsTrue result ↔ Harms to entry.now }
-{
-    match to {
-        At::Lower => entry.num() < 0,
-        At::Upper => entry.num() > 0,
-        At::Zero | At::Basic => false,
-    }
-}
-
 /// The entries over this number.
 fn ratios(alloc: Global, entries: &[Frac], divisor: &Frac) -> Result<List<Frac>, Large>
     requires { divisor.now ≢ whole (pos 0) }
     ensures value { IfOk result (λ ratios. ratios.items ≡ map (λ (x : Rational). mul x (inverse divisor.now)) entries.now) }
-    ensures refused { IfErr result IsFailure }
+    ensures refused { (s : State) → (AreNarrow (numbers_of s) → All IsSmall entries.now) → (AreNarrow (numbers_of s) → IsSmall divisor.now) → IfErr result (IsFailure s) }
 {
     let mut ratios = List::new(alloc);
     for entry in entries {
-        let ratio = quotient(entry, divisor)?;
+        let ratio = entry.div(divisor)?;
         ratios.push(ratio)?;
     }
     Ok(ratios)

@@ -2,26 +2,26 @@
 //!
 //! [`build`] makes the relaxation, [`rebox`] puts the ends of a box on a board. From a board whose
 //! steps have ended, [`multipliers`] reads the rows' multipliers, [`vertex`] the point, and [`farkas`]
-//! the multipliers that show that there is no point. A caller may rest on two laws: the bound of the
-//! multipliers is the objective of the vertex, and the Farkas multipliers empty the box. Numbers are
-//! read as least whole multiples, and refused where one of them is too large for a tree.
+//! the multipliers that show that there is no point. What these mean for the deck are the laws of
+//! `um_duality`, whose definitions the readings meet. Numbers are read as least whole multiples, and
+//! refused where one of them is too large for a tree.
 //!
 //! For now of decks without arcs.
 #![tactic(auto)]
 
 mod ends;
-mod fractions;
 mod infeasible;
-pub mod laws;
+mod large;
 mod making;
 mod point;
-mod prices;
+mod row_multipliers;
 mod whole;
 
 pub use ends::{Reboxed, rebox};
 pub use infeasible::farkas;
+pub use large::Large;
 pub use making::build;
 pub use point::vertex;
-pub use prices::{Large, multipliers};
+pub use row_multipliers::multipliers;
 pub use um_lp::{Multipliers, Price, Relaxation};
 pub use um_model::Point;

@@ -1,14 +1,15 @@
 //! The relaxation of a deck.
 
 ghost use Rattle.std.specs.Prelude.{◌≡◌, ◌++◌, ℤ, map, false, IfOk};
-ghost use Rattle.um_deck.specs.Decks.{IsPlain};
+ghost use Rattle.um_deck.specs.Decks.{HasNoSetsOrArcs};
 ghost use Rattle.um_num.specs.Listed.{Listed};
 ghost use Rattle.um_lp.specs.Relaxations.{IsRelaxation, frame_of};
 ghost use Rattle.um_model.specs.declared.deck.Column.{Column};
 ghost use Rattle.um_model.specs.declared.deck.Entry.{Entry};
 ghost use Rattle.um_model.specs.declared.deck.Row.{Row};
 ghost use Rattle.um_lp.specs.declared.relaxation.Term.{Term};
-ghost use Rattle.um_relax.specs.Relaxed.{IsRelaxationOf, deck_frame, side_end, term_of};
+ghost use Rattle.um_duality.specs.Relaxed.{deck_frame, side_end, term_of};
+ghost use Rattle.um_relax.specs.Relaxations.{IsRelaxationOf};
 
 use std::alloc::Global;
 use um_deck::{Column, Deck, Entry, Row};
@@ -17,7 +18,7 @@ use um_num::{List, Memory};
 
 /// The relaxation of a deck without sets and arcs. The error is want of memory.
 pub fn build(alloc: Global, deck: &Deck) -> Result<Relaxation, Memory>
-    requires { IsPlain deck.now }
+    requires { HasNoSetsOrArcs deck.now }
     ensures relaxed { IfOk result (IsRelaxationOf deck.now) }
     ensures sizes { IfOk result IsRelaxation }
     ensures frame { IfOk result (λ relaxation. frame_of relaxation ≡ deck_frame deck.now) }

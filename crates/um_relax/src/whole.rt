@@ -4,7 +4,7 @@ ghost use Rattle.std.specs.Prelude.{◌≡◌, ◌<◌, ◌≤◌, ◌^◌, ◌/
 ghost use Rattle.std.specs.Option.{MatchOption};
 ghost use Rattle.um_lp.specs.WideStates as WideStates;
 ghost use Rattle.um_num.specs.Numbers.{IsInRange};
-ghost use Rattle.um_relax.specs.WholeMultiples.{times, prices_from};
+ghost use Rattle.um_duality.specs.WholeMultiples.{times, prices_from};
 ghost use Rattle.um_relax.specs.Parts.{IsProduct, IsCommon, IsLeastDenominator, IsTimes, IsWholeOf, IsPrice, AreTooLarge};
 
 use std::alloc::Global;

@@ -1,10 +1,10 @@
 -- Multipliers that are read from whole numbers, one for each row, are in normal form.
-use Rattle.std.proofs.Common.{◌≡◌, ◌≢◌, ℕ, ◌+◌, ◌<◌, ◌≤◌, zero, suc, nat_eq, Bool, true, false, List, [], ◌∷◌, length, refl, sym, ap, subst, arith}
+use Rattle.std.proofs.Common.{◌≡◌, ◌≢◌, ℕ, ◌+◌, ◌<◌, ◌≤◌, zero, suc, nat_eq, Bool, true, false, List, [], ◌∷◌, length, refl, subst, arith}
 use Rattle.std.specs.Prelude.{ℤ, pos, unsigned_abs, All, AllPairs, slice_index_or, if◌then◌else◌}
 use Rattle.std.proofs.lemmas.List.Kept.{AllPairs-cons}
-use Rattle.um_model.specs.Checkable.{HasRisingRows}
-use Rattle.um_model.specs.declared.multipliers.Price.{Price}
-use Rattle.um_relax.specs.WholeMultiples.{prices_from}
+use Rattle.um_multipliers.specs.NormalForm.{HasRisingRows}
+use Rattle.um_multipliers.specs.declared.multipliers.Price.{Price}
+use Rattle.um_duality.specs.WholeMultiples.{prices_from}
 
 -- each is of a row from this one on, and below this many
 pub record AreOfRows (from below : ℕ) (ps : List Price) : Type 0 where

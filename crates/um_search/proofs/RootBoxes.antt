@@ -7,7 +7,7 @@ use Rattle.um_model.specs.Values.{DeckValue, ColumnValue, SetValue}
 use Rattle.um_model.specs.WellFormed.{InOrder, IsDeck}
 use Rattle.um_model.specs.Boxes.{Ends, root, ends_at, span_at, ends_of, is_outside, is_shut_out, IsVoid}
 use Rattle.um_model.specs.declared.deck.Kind.TheVariants.{Continuous}
-use Rattle.um_model.proofs.Loops.{root_ends}
+use Rattle.um_soundness.proofs.Loops.{root_ends}
 
 abbrev AreCrossed : Ends → Type 0
 AreCrossed e = IsSomeAnd e.low (λ l. IsSomeAnd e.high (λ h. h <ℤ l))

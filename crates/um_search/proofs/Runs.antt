@@ -6,8 +6,9 @@ use Rattle.um_model.specs.Boxes.{BoxValue, root}
 use Rattle.um_lp.specs.States.{State, Frame, width}
 use Rattle.um_lp.specs.Boards.{SameRows, IsStart, IsBoard}
 use Rattle.um_lp.specs.DualSteps.{AreSteps, IsDualFeasible}
-use Rattle.um_relax.specs.Relaxed.{StandsFor, deck_frame}
-use Rattle.um_relax.specs.Boxed.{AreReboxed, IsBoxed, BoxedWhole}
+use Rattle.um_duality.specs.Relaxed.{StandsFor, deck_frame}
+use Rattle.um_relax.specs.Reboxings.{AreReboxed, BoxedWhole}
+use Rattle.um_duality.specs.Boxed.{IsBoxed}
 use Rattle.um_search.specs.Roots.{IsReady, IsRun}
 
 same_twice : (s m t : State) → SameRows s m → SameRows m t → SameRows s t
@@ -51,10 +52,10 @@ run_stands d pivots s r =
     stands_after d r.ready s (stands_after d ready.start r.ready (start_stands d ready.start ready.starts) (reboxed_same d (root d) (width ready.start.frame) ready.start r.ready ready.ends)) (steps_same pivots r.ready s r.steps)
 
 -- the root's ends were put on the board
-pub ready_of : (d : DeckValue) (b : BoxValue) (start s : State) → b ≡ root d → IsStart (deck_frame d) start → BoxedWhole d b start s → IsReady d s
-ready_of d b start s is starts h =
+pub ready_of : (d : DeckValue) (b : BoxValue) (start s : State) → b ≡ root d → IsStart (deck_frame d) start → IsBoard start → BoxedWhole d b start s → IsReady d s
+ready_of d b start s is starts board h =
     let whole = subst (λ (x : BoxValue). BoxedWhole d x start s) is h in
-    record { start = start; starts = starts; ends = whole.done; on = whole.boxed; feasible = whole.feasible }
+    record { start = start; starts = starts; board = board; ends = whole.done; on = whole.boxed; feasible = whole.feasible }
 
 -- and steps taken
 pub run_of : (d : DeckValue) (pivots : ℕ) (ready s : State) → IsReady d ready → AreSteps pivots ready s → IsBoard s → IsDualFeasible s → IsRun d pivots s

@@ -1,17 +1,18 @@
 -- On a board with every slack basic, a deck with finite ends wants finite ends.
-use Rattle.std.proofs.Common.{◌≡◌, ◌∙◌, ℕ, ◌+◌, ◌-◌, ◌<◌, ◌≤◌, nat_lt, Bool, true, false, List, [], length, map, Option, refl, sym, ap, subst, arith}
+use Rattle.std.proofs.Common.{◌≡◌, ◌∙◌, ℕ, ◌+◌, ◌-◌, ◌<◌, ◌≤◌, nat_lt, Bool, true, false, [], length, map, Option, refl, sym, subst, arith}
 use Rattle.std.specs.Prelude.{ℤ, IsSome, slice_index_or, slice_get, All, if◌then◌else◌}
 use Rattle.std.proofs.lemmas.Bool.Decides.{nat_tests}
 use Rattle.std.proofs.lemmas.List.{length-map}
 use Rattle.um_model.specs.Values.{DeckValue, ColumnValue}
 use Rattle.um_model.specs.WellFormed.{HasTwoEnds}
 use Rattle.um_model.specs.Boxes.{Ends, root, ends_of as box_ends_of}
-use Rattle.um_model.proofs.Loops.{root_ends}
+use Rattle.um_soundness.proofs.Loops.{root_ends}
 use Rattle.um_lp.specs.States.{State, Frame, width, slack, at_of, reduced_of}
 use Rattle.um_lp.specs.Boards.{IsBoard, IsStart, IsWantedEndFinite}
 use Rattle.um_lp.specs.declared.board.At.TheVariants.{Basic}
-use Rattle.um_relax.specs.Relaxed.{deck_frame, column_data}
-use Rattle.um_relax.specs.Boxed.{row_ends, WantsFiniteEnds}
+use Rattle.um_duality.specs.Relaxed.{deck_frame, column_data}
+use Rattle.um_duality.specs.Boxed.{row_ends}
+use Rattle.um_relax.specs.Reboxings.{WantsFiniteEnds}
 use Rattle.um_search.proofs.RootBoxes.{open_without_sets, nameless}
 
 below : (a b : ℕ) → nat_lt a b ≡ true → a < b

@@ -3,12 +3,12 @@ use Rattle.std.specs.Prelude.{◌≡◌, ◌≤◌, ◌^◌, pos, All}
 use Rattle.um_model.specs.Values.{DeckValue, ColumnValue}
 use Rattle.um_model.specs.WellFormed.{HasTwoEnds}
 use Rattle.um_model.specs.declared.deck.Kind.TheVariants.{Continuous}
-use Rattle.um_deck.specs.Decks.{IsPlain}
+use Rattle.um_deck.specs.Decks.{HasNoSetsOrArcs}
 use Rattle.um_search.specs.declared.budget.Budget.{Budget}
 
 -- no sets and arcs, and every column is continuous with two finite ends
 pub record IsSearched (d : DeckValue) : Type 0 where
-  pub plain : IsPlain d
+  pub no_sets_or_arcs : HasNoSetsOrArcs d
   pub continuous : All (λ (c : ColumnValue). c.kind ≡ Continuous) d.columns
   pub bounded : All (λ (c : ColumnValue). HasTwoEnds c.low c.high) d.columns
 

@@ -1,4 +1,4 @@
 pub mod Answers
 pub mod Conditions
-pub mod Ends
+pub mod Endings
 pub mod Roots

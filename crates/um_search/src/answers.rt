@@ -3,19 +3,21 @@
 ghost use Rattle.std.specs.Prelude.{◌≡◌, ◌≤◌, ◌^◌, pos, ◌≤ℤ◌, length, [], ◌∷◌, Some, IfOk};
 ghost use Rattle.um_deck.specs.Decks.{IsDeckNow};
 ghost use Rattle.um_model.specs.Accepted.{IsAccepted, IsSmallPoint, bound_in};
+ghost use Rattle.um_model.specs.AnswerValues.{plain_answer};
 ghost use Rattle.um_model.specs.Boxes.{root as root_of};
 ghost use Rattle.um_model.specs.Checkable.{IsCheckable};
 ghost use Rattle.um_model.specs.LeafValue.{leaf_value};
 ghost use Rattle.um_model.specs.Right.{IsRight};
-ghost use Rattle.um_model.specs.Values.{plain_point, plain_multipliers};
-ghost use Rattle.um_relax.specs.Readings.{AreBelow};
+ghost use Rattle.um_model.specs.Values.{plain_point};
+ghost use Rattle.um_multipliers.specs.PlainMultipliers.{plain_multipliers};
+ghost use Rattle.um_multipliers.specs.Sizes.{AreBelow};
 ghost use Rattle.um_bound.specs.Usable.{AreUsable};
-ghost use Rattle.um_search.specs.Answers.{TellsRun, kind_of};
+ghost use Rattle.um_search.specs.Answers.{TellsRun};
 ghost use Rattle.um_search.specs.Conditions.{IsSearched};
-ghost use Rattle.um_search.specs.Ends.{EndedAs};
+ghost use Rattle.um_search.specs.Endings.{EndedAs};
 ghost use Rattle.um_search.specs.Roots.{AtVertex, WithoutPoint, StoppedBy};
 
-use crate::root::RootEnd;
+use crate::root::RootEnding;
 use std::alloc::Global;
 use um_bound::{bound_of, value};
 use um_box::NodeBox;
@@ -31,24 +33,24 @@ pub(crate) fn answer_of(
     alloc: Global,
     deck: &Deck,
     root: &NodeBox<'_>,
-    end: RootEnd,
+    ending: RootEnding,
     pivots: u64,
     most: u64,
 ) -> Result<Answer, Memory>
     requires formed { IsDeckNow deck.now }
     requires searched { IsSearched deck.now }
     requires root { root.now ≡ record { deck = deck.now; limits = root_of deck.now } }
-    requires end { EndedAs deck.now pivots most end }
+    requires ending { EndedAs deck.now pivots most ending }
     requires within { pivots ≤ most }
-    ensures accepted { IfOk result (IsAccepted deck.now) }
-    ensures right { IfOk result (IsRight deck.now) }
-    ensures checkable { IfOk result (IsCheckable deck.now) }
-    ensures run { IfOk result (TellsRun deck.now most) }
+    ensures accepted { IfOk result (λ answer. IsAccepted deck.now (plain_answer answer)) }
+    ensures right { IfOk result (λ answer. IsRight deck.now (plain_answer answer)) }
+    ensures checkable { IfOk result (λ answer. IsCheckable deck.now (plain_answer answer)) }
+    ensures run { IfOk result (λ answer. TellsRun deck.now most (plain_answer answer)) }
 {
-    match end {
-        RootEnd::Vertex(point, y) => optimal(alloc, deck, point, y, pivots, most),
-        RootEnd::Empty(y) => infeasible(alloc, deck, y, pivots, most),
-        RootEnd::Stopped(why, y) => stopped(alloc, deck, root, why, y, pivots, most),
+    match ending {
+        RootEnding::Vertex(point, y) => optimal(alloc, deck, point, y, pivots, most),
+        RootEnding::Empty(y) => infeasible(alloc, deck, y, pivots, most),
+        RootEnding::Stopped(why, y) => stopped(alloc, deck, root, why, y, pivots, most),
     }
 }
 
@@ -63,14 +65,14 @@ fn optimal(
 ) -> Result<Answer, Memory>
     requires formed { IsDeckNow deck.now }
     requires searched { IsSearched deck.now }
-    requires end { AtVertex deck.now pivots (plain_point point) (plain_multipliers y) }
-    requires point { IsSmallPoint point }
+    requires ending { AtVertex deck.now pivots (plain_point point) (plain_multipliers y) }
+    requires point { IsSmallPoint (plain_point point) }
     requires multipliers { AreBelow (2 ^ 40) (plain_multipliers y) }
     requires within { pivots ≤ most }
-    ensures accepted { IfOk result (IsAccepted deck.now) }
-    ensures right { IfOk result (IsRight deck.now) }
-    ensures checkable { IfOk result (IsCheckable deck.now) }
-    ensures run { IfOk result (TellsRun deck.now most) }
+    ensures accepted { IfOk result (λ answer. IsAccepted deck.now (plain_answer answer)) }
+    ensures right { IfOk result (λ answer. IsRight deck.now (plain_answer answer)) }
+    ensures checkable { IfOk result (λ answer. IsCheckable deck.now (plain_answer answer)) }
+    ensures run { IfOk result (λ answer. TellsRun deck.now most (plain_answer answer)) }
 {
     let objective = objective(deck, &point);
     Ok(Answer {
@@ -94,13 +96,13 @@ fn infeasible(
 ) -> Result<Answer, Memory>
     requires formed { IsDeckNow deck.now }
     requires searched { IsSearched deck.now }
-    requires end { WithoutPoint deck.now pivots (plain_multipliers y) }
+    requires ending { WithoutPoint deck.now pivots (plain_multipliers y) }
     requires multipliers { AreBelow (2 ^ 40) (plain_multipliers y) }
     requires within { pivots ≤ most }
-    ensures accepted { IfOk result (IsAccepted deck.now) }
-    ensures right { IfOk result (IsRight deck.now) }
-    ensures checkable { IfOk result (IsCheckable deck.now) }
-    ensures run { IfOk result (TellsRun deck.now most) }
+    ensures accepted { IfOk result (λ answer. IsAccepted deck.now (plain_answer answer)) }
+    ensures right { IfOk result (λ answer. IsRight deck.now (plain_answer answer)) }
+    ensures checkable { IfOk result (λ answer. IsCheckable deck.now (plain_answer answer)) }
+    ensures run { IfOk result (λ answer. TellsRun deck.now most (plain_answer answer)) }
 {
     let _ = deck;
     Ok(Answer {
@@ -128,16 +130,16 @@ fn stopped(
     requires formed { IsDeckNow deck.now }
     requires searched { IsSearched deck.now }
     requires root { root.now ≡ record { deck = deck.now; limits = root_of deck.now } }
-    requires end { StoppedBy deck.now pivots most why (plain_multipliers y) }
+    requires ending { StoppedBy deck.now pivots most why (plain_multipliers y) }
     requires within { pivots ≤ most }
-    ensures accepted { IfOk result (IsAccepted deck.now) }
-    ensures right { IfOk result (IsRight deck.now) }
-    ensures checkable { IfOk result (IsCheckable deck.now) }
-    ensures run { IfOk result (TellsRun deck.now most) }
+    ensures accepted { IfOk result (λ answer. IsAccepted deck.now (plain_answer answer)) }
+    ensures right { IfOk result (λ answer. IsRight deck.now (plain_answer answer)) }
+    ensures checkable { IfOk result (λ answer. IsCheckable deck.now (plain_answer answer)) }
+    ensures run { IfOk result (λ answer. TellsRun deck.now most (plain_answer answer)) }
 {
     let bound = bound_on(deck, root, &y);
     Ok(Answer {
-        kind: kind_of(&why),
+        kind: why.kind(),
         why: Some(why),
         tolerance: 0,
         objective: None,
@@ -160,16 +162,6 @@ fn bound_on(deck: &Deck, root: &NodeBox<'_>, y: &Multipliers) -> Option<Frac>
     match value(deck, root, y) {
         Leaf::Value(value) => Some(bound_of(deck, y.y0, value)),
         Leaf::EndlessRow(_) | Leaf::EndlessColumn(_) => None,
-    }
-}
-
-/// The budget of pivots is a limit; all other reasons are numbers that are too large.
-fn kind_of(why: &Why) -> AnswerKind
-    ensures { result ≡ kind_of why.now }
-{
-    match why {
-        Why::Nodes | Why::Pivots | Why::Points { .. } | Why::Grid { .. } => AnswerKind::Limit,
-        _ => AnswerKind::Overflow,
     }
 }
 

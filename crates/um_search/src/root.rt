@@ -1,20 +1,22 @@
 //! The search of a root node on a board.
 
 ghost use Rattle.std.specs.Prelude.{◌≡◌, ℕ, ◌-◌, ◌≤◌, IfOk};
-ghost use Rattle.um_deck.specs.Decks.{IsPlain};
+ghost use Rattle.um_deck.specs.Decks.{HasNoSetsOrArcs};
 ghost use Rattle.um_lp.specs.Boards.{IsStart};
 ghost use Rattle.um_lp.specs.DualSteps.{IsNext, Ended as HasEnded, NoPoint};
 ghost use Rattle.um_lp.specs.Relaxations.{frame_of};
 ghost use Rattle.um_model.specs.Accepted.{IsAccepted};
+ghost use Rattle.um_model.specs.AnswerValues.{plain_answer};
 ghost use Rattle.um_model.specs.Boxes.{root as root_of};
 ghost use Rattle.um_model.specs.Checkable.{IsCheckable};
 ghost use Rattle.um_model.specs.Right.{IsRight};
-ghost use Rattle.um_model.specs.Values.{plain_multipliers};
+ghost use Rattle.um_multipliers.specs.PlainMultipliers.{plain_multipliers};
 ghost use Rattle.um_model.specs.WellFormed.{IsDeck};
-ghost use Rattle.um_relax.specs.Relaxed.{IsRelaxationOf, deck_frame};
+ghost use Rattle.um_relax.specs.Relaxations.{IsRelaxationOf};
+ghost use Rattle.um_duality.specs.Relaxed.{deck_frame};
 ghost use Rattle.um_search.specs.Answers.{TellsRun};
 ghost use Rattle.um_search.specs.Conditions.{IsSearched, IsBudget};
-ghost use Rattle.um_search.specs.Ends.{EndedAs, RefusedAs};
+ghost use Rattle.um_search.specs.Endings.{EndedAs, RefusedAs};
 ghost use Rattle.um_search.specs.Roots.{IsReady, IsRun, one_and_none};
 
 use crate::answers::answer_of;
@@ -31,7 +33,7 @@ use um_tableau::Tableau;
 
 /// How the search of a root node ended.
 #[derive(Debug, Drop)]
-pub enum RootEnd {
+pub enum RootEnding {
     /// At this vertex, with the multipliers that prove it.
     Vertex(Point, Multipliers),
     /// Without a point, with the multipliers that show it.
@@ -48,10 +50,10 @@ pub enum RootEnd {
 pub fn solve(alloc: Global, deck: &Deck, budget: Budget) -> Result<Answer, Memory>
     requires searched { IsSearched deck.now }
     requires budget { IsBudget budget }
-    ensures accepted { IfOk result (IsAccepted deck.now) }
-    ensures right { IfOk result (IsRight deck.now) }
-    ensures checkable { IfOk result (IsCheckable deck.now) }
-    ensures run { IfOk result (TellsRun deck.now budget.pivots) }
+    ensures accepted { IfOk result (λ answer. IsAccepted deck.now (plain_answer answer)) }
+    ensures right { IfOk result (λ answer. IsRight deck.now (plain_answer answer)) }
+    ensures checkable { IfOk result (λ answer. IsCheckable deck.now (plain_answer answer)) }
+    ensures run { IfOk result (λ answer. TellsRun deck.now budget.pivots (plain_answer answer)) }
 {
     let mut relaxation = build(alloc, deck)?;
     let mut board = Tableau::new(alloc, &relaxation)?;
@@ -69,10 +71,10 @@ pub fn solve_on<B: Board>(
     requires searched { IsSearched deck.now }
     requires budget { IsBudget budget }
     requires starts { IsStart (deck_frame deck.now) (B.state board.old) }
-    ensures accepted { IfOk result (IsAccepted deck.now) }
-    ensures right { IfOk result (IsRight deck.now) }
-    ensures checkable { IfOk result (IsCheckable deck.now) }
-    ensures run { IfOk result (TellsRun deck.now budget.pivots) }
+    ensures accepted { IfOk result (λ answer. IsAccepted deck.now (plain_answer answer)) }
+    ensures right { IfOk result (λ answer. IsRight deck.now (plain_answer answer)) }
+    ensures checkable { IfOk result (λ answer. IsCheckable deck.now (plain_answer answer)) }
+    ensures run { IfOk result (λ answer. TellsRun deck.now budget.pivots (plain_answer answer)) }
 {
     let mut relaxation = build(alloc, deck)?;
     search(alloc, deck, &mut relaxation, board, budget)
@@ -91,16 +93,23 @@ fn search<B: Board>(
     requires relaxed { IsRelaxationOf deck.now relaxation.old }
     requires frame { frame_of relaxation.old ≡ deck_frame deck.now }
     requires starts { IsStart (deck_frame deck.now) (B.state board.old) }
-    ensures accepted { IfOk result (IsAccepted deck.now) }
-    ensures right { IfOk result (IsRight deck.now) }
-    ensures checkable { IfOk result (IsCheckable deck.now) }
-    ensures run { IfOk result (TellsRun deck.now budget.pivots) }
+    ensures accepted { IfOk result (λ answer. IsAccepted deck.now (plain_answer answer)) }
+    ensures right { IfOk result (λ answer. IsRight deck.now (plain_answer answer)) }
+    ensures checkable { IfOk result (λ answer. IsCheckable deck.now (plain_answer answer)) }
+    ensures run { IfOk result (λ answer. TellsRun deck.now budget.pivots (plain_answer answer)) }
 {
     deck.known();
     let root = NodeBox::root(alloc, deck)?;
     let mut left = budget.pivots;
-    let end = search_root(alloc, &root, relaxation, board, &mut left)?;
-    answer_of(alloc, deck, &root, end, budget.pivots - left, budget.pivots)
+    let ending = search_root(alloc, &root, relaxation, board, &mut left)?;
+    answer_of(
+        alloc,
+        deck,
+        &root,
+        ending,
+        budget.pivots - left,
+        budget.pivots,
+    )
 }
 
 /// Puts the root's ends on the board, takes steps, and reads what they ended at.
@@ -110,7 +119,7 @@ fn search_root<B: Board>(
     relaxation: &mut Relaxation,
     board: &mut B,
     left: &mut u64,
-) -> Result<RootEnd, Memory>
+) -> Result<RootEnding, Memory>
     requires formed { IsDeck root.now.deck }
     requires searched { IsSearched root.now.deck }
     requires root { root.now.limits ≡ root_of root.now.deck }
@@ -118,7 +127,7 @@ fn search_root<B: Board>(
     requires frame { frame_of relaxation.old ≡ deck_frame root.now.deck }
     requires starts { IsStart (deck_frame root.now.deck) (B.state board.old) }
     ensures falls { left.new ≤ left.old }
-    ensures end { IfOk result (EndedAs root.now.deck (left.old - left.new) left.old) }
+    ensures ending { IfOk result (EndedAs root.now.deck (left.old - left.new) left.old) }
 {
     match rebox(relaxation, board, root) {
         Reboxed::Done => run_steps(alloc, root, relaxation, board, left),
@@ -126,7 +135,7 @@ fn search_root<B: Board>(
         Reboxed::Wide(wide) => {
             let (number, step) = (1, 0);
             let why = Why::Value { number, step, wide };
-            Ok(RootEnd::Stopped(why, one_and_none(alloc)))
+            Ok(RootEnding::Stopped(why, one_and_none(alloc)))
         }
     }
 }
@@ -138,27 +147,27 @@ fn run_steps<B: Board>(
     relaxation: &Relaxation,
     board: &mut B,
     left: &mut u64,
-) -> Result<RootEnd, Memory>
+) -> Result<RootEnding, Memory>
     requires relaxed { IsRelaxationOf root.now.deck relaxation.now }
     requires frame { frame_of relaxation.now ≡ deck_frame root.now.deck }
     requires ready { IsReady root.now.deck (B.state board.old) }
     ensures falls { left.new ≤ left.old }
-    ensures end { IfOk result (EndedAs root.now.deck (left.old - left.new) left.old) }
+    ensures ending { IfOk result (EndedAs root.now.deck (left.old - left.new) left.old) }
 {
     let most = *left;
-    let end = um_dual::solve(board, left);
+    let ending = um_dual::solve(board, left);
     let step = most - *left;
-    match end {
+    match ending {
         Ended::Optimal => at_vertex(alloc, root, relaxation, board, step),
         Ended::NoPoint(row) => without_point(alloc, root, relaxation, board, row, step),
-        Ended::OutOfPivots => Ok(RootEnd::Stopped(Why::Pivots, one_and_none(alloc))),
+        Ended::OutOfPivots => Ok(RootEnding::Stopped(Why::Pivots, one_and_none(alloc))),
         Ended::Wide(wide) => {
             let why = Why::Pivot {
                 number: 1,
                 step,
                 wide,
             };
-            Ok(RootEnd::Stopped(why, one_and_none(alloc)))
+            Ok(RootEnding::Stopped(why, one_and_none(alloc)))
         }
     }
 }
@@ -170,12 +179,12 @@ fn at_vertex<B: Board>(
     relaxation: &Relaxation,
     board: &B,
     step: u64,
-) -> Result<RootEnd, Memory>
+) -> Result<RootEnding, Memory>
     requires relaxed { IsRelaxationOf root.now.deck relaxation.now }
     requires frame { frame_of relaxation.now ≡ deck_frame root.now.deck }
     requires run { IsRun root.now.deck step (B.state board.now) }
     requires ended { IsNext (B.state board.now) HasEnded }
-    ensures { IfOk result (λ end. (most : ℕ) → EndedAs root.now.deck step most end) }
+    ensures { IfOk result (λ ending. (most : ℕ) → EndedAs root.now.deck step most ending) }
 {
     let y = match multipliers(alloc, relaxation, board) {
         Ok(y) => y,
@@ -185,7 +194,7 @@ fn at_vertex<B: Board>(
         }
     };
     match vertex(alloc, relaxation, board) {
-        Ok(point) => Ok(RootEnd::Vertex(point, y)),
+        Ok(point) => Ok(RootEnding::Vertex(point, y)),
         Err(large) => refused(large, Why::Vertex { number: 1 }, step, y),
     }
 }
@@ -198,15 +207,15 @@ fn without_point<B: Board>(
     board: &B,
     row: u32,
     step: u64,
-) -> Result<RootEnd, Memory>
+) -> Result<RootEnding, Memory>
     requires relaxed { IsRelaxationOf root.now.deck relaxation.now }
     requires frame { frame_of relaxation.now ≡ deck_frame root.now.deck }
     requires run { IsRun root.now.deck step (B.state board.now) }
     requires no_point { IsNext (B.state board.now) (NoPoint row) }
-    ensures { IfOk result (λ end. (most : ℕ) → EndedAs root.now.deck step most end) }
+    ensures { IfOk result (λ ending. (most : ℕ) → EndedAs root.now.deck step most ending) }
 {
     match farkas(alloc, relaxation, board, row) {
-        Ok(y) => Ok(RootEnd::Empty(y)),
+        Ok(y) => Ok(RootEnding::Empty(y)),
         Err(large) => {
             let why = Why::Leaf { number: 1 };
             refused(large, why, step, one_and_none(alloc))
@@ -216,14 +225,14 @@ fn without_point<B: Board>(
 
 /// Where a reading is refused: a large number stops the search for this reason, and an operation out
 /// of range as a value.
-fn refused(large: Large, why: Why, step: u64, y: Multipliers) -> Result<RootEnd, Memory>
+fn refused(large: Large, why: Why, step: u64, y: Multipliers) -> Result<RootEnding, Memory>
     ensures { RefusedAs large why step y result }
 {
     match large {
-        Large::Large => Ok(RootEnd::Stopped(why, y)),
+        Large::Large => Ok(RootEnding::Stopped(why, y)),
         Large::Wide(wide) => {
             let number = 1;
-            Ok(RootEnd::Stopped(Why::Value { number, step, wide }, y))
+            Ok(RootEnding::Stopped(Why::Value { number, step, wide }, y))
         }
         Large::Memory => Err(Memory),
     }

@@ -5,18 +5,22 @@ ghost use Rattle.um_lp.specs.Boards.{IsStart};
 ghost use Rattle.um_lp.specs.Relaxations.{frame_of};
 ghost use Rattle.um_model.specs.Boxes.{root as root_of};
 ghost use Rattle.um_model.specs.WellFormed.{IsDeck};
-ghost use Rattle.um_relax.specs.Relaxed.{IsRelaxationOf, deck_frame};
-ghost use Rattle.um_search.specs.Conditions.{IsSearched};
+ghost use Rattle.um_relax.specs.Relaxations.{IsRelaxationOf};
+ghost use Rattle.um_duality.specs.Relaxed.{deck_frame};
+ghost use Rattle.um_search.specs.Conditions.{IsSearched, IsBudget};
+ghost use Rattle.um_search.specs.Roots.{IsReady};
 
-use crate::{AnswerKind, Budget, solve};
+use crate::{Answer, AnswerKind, Budget, solve, solve_on};
 use std::alloc::Global;
+use std::process::Abort;
 use std::test::Fail;
 use um_box::NodeBox;
 use um_deck::{Deck, first};
-use um_dual::Stepped;
+use um_dual::{Ended, Stepped};
 use um_lp::Board;
+use um_model::{Multipliers, Point, Price, What};
 use um_num::Memory;
-use um_relax::{Reboxed, Relaxation, build, rebox};
+use um_relax::{Large, Reboxed, Relaxation, build, farkas, multipliers, rebox, vertex};
 use um_tableau::Tableau;
 
 /// Both rows cut off the corner (10,10): three steps, which end at (3, 3/2).
@@ -59,6 +63,62 @@ const RUNS: [(&[u8], u64, AnswerKind, u64, &[i128]); 11] = [
     (DONE, 1, AnswerKind::Optimal, 0, &[1, 2]),
 ];
 
+/// The answer that is found on a new board for the deck.
+fn solve_on_new(alloc: Global, deck: &Deck, budget: Budget) -> Result<Answer, Memory>
+    requires searched { IsSearched deck.now }
+    requires budget { IsBudget budget }
+{
+    let relaxation = build(alloc, deck)?;
+    let mut board = Tableau::new(alloc, &relaxation)?;
+    solve_on(alloc, deck, &mut board, budget)
+}
+
+/// The point has this denominator and these parts; where they are missing there is no point.
+fn is_at(rt: &impl Abort, found: &Option<Point>, expected: &[i128]) {
+    match (found, expected) {
+        (Some(found), [den, parts @ ..]) => {
+            assert_eq!(rt; found.den, *den);
+            assert_eq!(rt; found.parts.as_slice(), parts);
+        }
+        (found, expected) => assert!(rt; found.is_none() && expected.is_empty()),
+    }
+}
+
+/// The multipliers of a leaf.
+fn multipliers_of(what: &What) -> Option<&Multipliers> {
+    match what {
+        What::Bounded(y) | What::Empty(y) | What::OpenLeaf(y) => Some(y),
+        What::Split(_) | What::Void(_) => None,
+    }
+}
+
+/// Both answers have the same one leaf.
+fn have_same_leaf(rt: &impl Abort, first: &Answer, second: &Answer) {
+    match (first.tree.nodes(), second.tree.nodes()) {
+        ([one], [other]) => {
+            assert_eq!(rt; one.solved, other.solved);
+            match (multipliers_of(&one.what), multipliers_of(&other.what)) {
+                (Some(y), Some(z)) => {
+                    assert_eq!(rt; y.y0, z.y0);
+                    assert_eq!(rt; y.rows.as_slice(), z.rows.as_slice());
+                }
+                _ => assert!(rt; false),
+            }
+        }
+        _ => assert!(rt; false),
+    }
+}
+
+/// The answer to a deck, and that on a new board.
+fn both(alloc: Global, deck: &Deck, budget: Budget) -> Result<(Answer, Answer), Memory>
+    requires searched { IsSearched deck.now }
+    requires budget { IsBudget budget }
+{
+    let answer = solve(alloc, deck, budget)?;
+    let other = solve_on_new(alloc, deck, budget)?;
+    Ok((answer, other))
+}
+
 #[test]
 fn runs(rt: HostRuntime) -> Result<(), Fail> {
     for (text, most, kind, pivots, point) in RUNS {
@@ -71,18 +131,19 @@ fn runs(rt: HostRuntime) -> Result<(), Fail> {
             pivots: most.max(1).min(10_000_000),
             tolerance: 0,
         };
-        let answer = solve(rt.alloc(), &deck, budget)?;
+        // A board that is handed in gives the same.
+        let (answer, other) = both(rt.alloc(), &deck, budget)?;
         assert_eq!(rt; answer.kind, kind);
         for node in answer.tree.nodes() {
             assert_eq!(rt; node.solved.map(|solved| solved.pivots), Some(pivots));
         }
-        match (&answer.point, point) {
-            (Some(found), [den, parts @ ..]) => {
-                assert_eq!(rt; found.den, *den);
-                assert_eq!(rt; found.parts.as_slice(), parts);
-            }
-            (found, expected) => assert!(rt; found.is_none() && expected.is_empty()),
-        }
+        is_at(&rt, &answer.point, point);
+        assert_eq!(rt; other.kind, kind);
+        assert_eq!(rt; other.why, answer.why);
+        assert_eq!(rt; other.objective, answer.objective);
+        assert_eq!(rt; other.bound, answer.bound);
+        is_at(&rt, &other.point, point);
+        have_same_leaf(&rt, &answer, &other);
     }
     Ok(())
 }
@@ -125,6 +186,126 @@ fn steps(rt: HostRuntime) -> Result<(), Fail> {
             return Ok(());
         };
         assert_eq!(rt; first_step_of(rt.alloc(), &deck)?, Some(stepped));
+    }
+    Ok(())
+}
+
+/// What is read from a board whose steps have ended.
+#[derive(Drop)]
+struct Reading {
+    /// Those of the vertex, or of Farkas where there is none.
+    y: Multipliers,
+    point: Option<Point>,
+}
+
+/// Takes steps on a board with the root's ends, and reads what they ended at.
+fn read_end<B: Board>(
+    alloc: Global,
+    root: &NodeBox<'_>,
+    relaxation: &Relaxation,
+    board: &mut B,
+) -> Result<Option<Reading>, Large>
+    requires relaxed { IsRelaxationOf root.now.deck relaxation.now }
+    requires frame { frame_of relaxation.now ≡ deck_frame root.now.deck }
+    requires ready { IsReady root.now.deck (B.state board.old) }
+{
+    let _ = root;
+    let mut left = 10;
+    match um_dual::solve(board, &mut left) {
+        Ended::Optimal => {
+            let y = multipliers(alloc, relaxation, board)?;
+            let point = Some(vertex(alloc, relaxation, board)?);
+            Ok(Some(Reading { y, point }))
+        }
+        Ended::NoPoint(row) => {
+            let y = farkas(alloc, relaxation, board, row)?;
+            Ok(Some(Reading { y, point: None }))
+        }
+        Ended::OutOfPivots | Ended::Wide(_) => Ok(None),
+    }
+}
+
+/// What is read from a board that gets the root's ends.
+fn read_root<B: Board>(
+    alloc: Global,
+    root: &NodeBox<'_>,
+    relaxation: &mut Relaxation,
+    board: &mut B,
+) -> Result<Option<Reading>, Large>
+    requires formed { IsDeck root.now.deck }
+    requires searched { IsSearched root.now.deck }
+    requires root { root.now.limits ≡ root_of root.now.deck }
+    requires relaxed { IsRelaxationOf root.now.deck relaxation.old }
+    requires frame { frame_of relaxation.old ≡ deck_frame root.now.deck }
+    requires starts { IsStart (deck_frame root.now.deck) (B.state board.old) }
+{
+    match rebox(relaxation, board, root) {
+        Reboxed::Done => read_end(alloc, root, relaxation, board),
+        Reboxed::Full(_) | Reboxed::Wide(_) => Ok(None),
+    }
+}
+
+/// What is read at the root of a deck.
+fn read_root_of(alloc: Global, deck: &Deck) -> Result<Option<Reading>, Large>
+    requires { IsSearched deck.now }
+{
+    deck.known();
+    let root = NodeBox::root(alloc, deck)?;
+    let mut relaxation = build(alloc, deck)?;
+    let mut board = Tableau::new(alloc, &relaxation)?;
+    read_root(alloc, &root, &mut relaxation, &mut board)
+}
+
+/// A deck, the first multiplier and those of the rows, and the point.
+const READINGS: [(&[u8], i128, &[Price], &[i128]); 2] = [
+    (
+        THREE,
+        4,
+        &[Price { row: 0, value: -3 }, Price { row: 1, value: -2 }],
+        &[2, 6, 3],
+    ),
+    (NO_POINT, 0, &[Price { row: 0, value: -1 }], &[]),
+];
+
+#[test]
+fn readings(rt: HostRuntime) -> Result<(), Fail> {
+    for (text, y0, prices, point) in READINGS {
+        let Ok(deck) = first(rt.alloc(), text) else {
+            assert!(rt; false);
+            return Ok(());
+        };
+        let Ok(Some(reading)) = read_root_of(rt.alloc(), &deck) else {
+            assert!(rt; false);
+            return Ok(());
+        };
+        assert_eq!(rt; reading.y.y0, y0);
+        assert_eq!(rt; reading.y.rows.as_slice(), prices);
+        is_at(&rt, &reading.point, point);
+    }
+    Ok(())
+}
+
+/// The costs of both columns, and their ends in thousandths with the sides of both rows behind them.
+const COSTS: [i128; 2] = [-5, -4];
+
+const LOWS: [Option<i128>; 4] = [Some(0), Some(0), None, None];
+
+const HIGHS: [Option<i128>; 4] = [Some(10_000), Some(10_000), Some(24_000), Some(6_000)];
+
+#[test]
+fn parts(rt: HostRuntime) -> Result<(), Fail> {
+    let Ok(deck) = first(rt.alloc(), THREE) else {
+        assert!(rt; false);
+        return Ok(());
+    };
+    let relaxation = build(rt.alloc(), &deck)?;
+    assert_eq!(rt; (relaxation.columns, relaxation.rows), (2, 2));
+    assert_eq!(rt; relaxation.costs.as_slice(), COSTS.as_slice());
+    assert_eq!(rt; relaxation.lows.as_slice(), LOWS.as_slice());
+    assert_eq!(rt; relaxation.highs.as_slice(), HIGHS.as_slice());
+    let root = NodeBox::root(rt.alloc(), &deck)?;
+    for column in 0..deck.columns().len() {
+        assert_eq!(rt; root.ends(column as u32), (Some(0), Some(10_000)));
     }
     Ok(())
 }

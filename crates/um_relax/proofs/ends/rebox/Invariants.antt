@@ -1,6 +1,7 @@
 use Rattle.std.proofs.Common.{ℕ, ◌<◌}
 use Rattle.um_lp.specs.Boards.{AreOrdered}
-use Rattle.um_relax.specs.Boxed.{AreReboxed, ends_on}
+use Rattle.um_relax.specs.Reboxings.{AreReboxed}
+use Rattle.um_duality.specs.Boxed.{ends_on}
 use Rattle.um_relax.proofs.ends.rebox.Given as goal
 
 abbrev pub invariant-loop-column : goal.invariant-loop-column

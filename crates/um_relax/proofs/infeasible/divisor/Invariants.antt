@@ -1,7 +1,7 @@
 use Rattle.std.proofs.Common.{◌≡◌, ◌<◌, ℕ}
 use Rattle.std.specs.Prelude.{pos}
 use Rattle.um_laws.specs.Rational.{whole}
-use Rattle.um_lp.specs.States.{number_at}
+use Rattle.um_num.specs.NumberLists.{number_at}
 use Rattle.um_relax.proofs.infeasible.divisor.Given as goal
 
 abbrev pub invariant-loop-entry : goal.invariant-loop-entry

@@ -1,8 +1,12 @@
+use Rattle.std.proofs.Common.{rules, sym}
+use Rattle.um_num.specs.Sizes.{IsSmall}
+use Rattle.um_relax.specs.Refusals.{IsFailure}
+use Rattle.um_relax.proofs.SmallNumbers.{slacks_small, divisor_small}
 use Rattle.std.proofs.Common.{◌≡◌, arith, ap, ◌∙◌, subst, length, map, List, All}
 use Rattle.std.specs.Prelude.{ℤ, pos}
 use Rattle.um_laws.specs.Rational.{Rational, whole, mul, inverse}
 use Rattle.um_relax.specs.Parts.{IsDivisor}
-use Rattle.um_relax.specs.WholeMultiples.{prices_from}
+use Rattle.um_duality.specs.WholeMultiples.{prices_from}
 use Rattle.um_relax.proofs.FarkasNumbers.{harms_not_zero, some_entry, farkas_are, farkas_below, farkas_large, ratios_long}
 use Rattle.um_relax.proofs.NormalPrices.{parts_long}
 use Rattle.um_relax.proofs.infeasible.farkas.Goals as goal
@@ -50,3 +54,15 @@ returns-clause-refused g c =
     let divisor = subst (λ (xs : List Rational). IsDivisor c.in_ok-to.to xs d) c.as_slice.ensures c.in-Some.ensures in
     farkas_large s c.args.row _ c.in_ok-to.to entries c.as_slice-3.result.now d c.in_ok-to.ensures.to c.in_ok-entries.ensures.value divisor
     (c.as_slice-3.ensures ∙ c.in_ok-ratios.ensures.value ∙ ap (map (λ (x : Rational). mul x (inverse d))) c.as_slice-2.ensures) h
+
+pub returns-in_err-ratios-clause-refused : goal.returns-in_err-ratios-clause-refused
+returns-in_err-ratios-clause-refused g c =
+    let s = g.B.Board.state c.args.board.now in
+    let board = g.met.B.Board.belongs c.args.board.now in
+    let row = c.in_ok-to.ensures.to.within in
+    let entries = c.in_ok-entries.entries.items in
+    let divisor = subst (λ (xs : List Rational). IsDivisor c.in_ok-to.to xs c.in-Some.divisor) c.as_slice.ensures c.in-Some.ensures in
+    let here : IsFailure s c.in_err-ratios.field-0.0 = c.in_err-ratios.ensures.refused s
+    (λ h. subst (λ (xs : List Rational). All IsSmall xs) (sym c.as_slice-2.ensures) (slacks_small s c.args.row entries board row c.in_ok-entries.ensures.value h))
+    (λ h. divisor_small s c.args.row c.in_ok-to.to entries c.in-Some.divisor board row c.in_ok-entries.ensures.value divisor h) in
+    search (rules, here)

@@ -1,7 +1,7 @@
 use Rattle.std.proofs.Common.{refl, length, false}
 use Rattle.um_lp.specs.declared.relaxation.Relaxation.{Relaxation}
 use Rattle.um_relax.proofs.MadeRelaxations.{IsMadeOf, made_relaxed, relaxed_frame, relaxed_sizes}
-use Rattle.um_relax.specs.Relaxed.{IsRelaxationOf}
+use Rattle.um_relax.specs.Relaxations.{IsRelaxationOf}
 use Rattle.um_relax.proofs.making.build.Goals as goal
 
 made : (c : goal.After-new-3) → Relaxation

@@ -1,7 +1,7 @@
 use Rattle.std.proofs.Common.{◌≡◌, ◌++◌, take, map}
 use Rattle.um_model.specs.declared.deck.Column.{Column}
 use Rattle.um_model.specs.declared.deck.Row.{Row}
-use Rattle.um_relax.specs.Relaxed.{side_end}
+use Rattle.um_duality.specs.Relaxed.{side_end}
 use Rattle.um_relax.proofs.making.lows.Given as goal
 
 abbrev pub invariant-loop-column : goal.invariant-loop-column

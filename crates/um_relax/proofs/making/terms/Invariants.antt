@@ -1,5 +1,5 @@
 use Rattle.std.proofs.Common.{◌≡◌, take, map}
-use Rattle.um_relax.specs.Relaxed.{term_of}
+use Rattle.um_duality.specs.Relaxed.{term_of}
 use Rattle.um_relax.proofs.making.terms.Given as goal
 
 abbrev pub invariant-loop-entry : goal.invariant-loop-entry

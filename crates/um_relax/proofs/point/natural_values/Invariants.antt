@@ -1,5 +1,5 @@
 use Rattle.std.proofs.Common.{◌≡◌, take, map}
-use Rattle.um_relax.specs.Readings.{natural}
+use Rattle.um_duality.specs.Readings.{natural}
 use Rattle.um_relax.proofs.point.natural_values.Given as goal
 
 abbrev pub invariant-loop-column : goal.invariant-loop-column

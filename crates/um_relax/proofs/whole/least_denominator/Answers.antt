@@ -1,7 +1,8 @@
 use Rattle.std.proofs.Common.{arith, ◌∙◌}
 use Rattle.std.proofs.lemmas.Int.{ints}
 use Rattle.um_num.proofs.Parts.{from_bits}
-use Rattle.um_relax.proofs.Denominators.{denominator_positive, none_before}
+use Rattle.um_lp.proofs.Denominators.{denominator_positive}
+use Rattle.um_relax.proofs.PartDenominators.{none_before}
 use Rattle.um_relax.proofs.whole.least_denominator.Goals as goal
 
 pub common-requires-clause-b_positive : goal.common-requires-clause-b_positive

@@ -1,7 +1,7 @@
 use Rattle.std.proofs.Common.{◌≡◌, ◌<◌, take, map, All}
 use Rattle.std.specs.Prelude.{ℤ, unsigned_abs}
 use Rattle.um_lp.specs.WideStates.{common_denominator}
-use Rattle.um_relax.specs.WholeMultiples.{times}
+use Rattle.um_duality.specs.WholeMultiples.{times}
 use Rattle.um_relax.proofs.whole.least_whole.Given as goal
 
 abbrev pub invariant-loop-x : goal.invariant-loop-x

@@ -1,6 +1,6 @@
 use Rattle.std.proofs.Common.{ap, ◌∙◌}
 use Rattle.um_num.specs.Listed.{Listed}
-use Rattle.um_model.specs.declared.multipliers.Price.{Price}
+use Rattle.um_multipliers.specs.declared.multipliers.Price.{Price}
 use Rattle.um_relax.proofs.NormalPrices.{price_pushed, price_left_out}
 use Rattle.um_relax.proofs.whole.normal.Goals as goal
 use Rattle.um_relax.proofs.whole.normal.Goals.{in-Some+in_ok-push, in_default}

@@ -1,5 +1,5 @@
 use Rattle.std.proofs.Common.{◌≡◌, take}
-use Rattle.um_relax.specs.WholeMultiples.{prices_from}
+use Rattle.um_duality.specs.WholeMultiples.{prices_from}
 use Rattle.um_relax.proofs.whole.normal.Given as goal
 
 abbrev pub invariant-loop-row : goal.invariant-loop-row

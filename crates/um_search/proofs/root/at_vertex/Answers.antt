@@ -11,3 +11,8 @@ vertex-requires-clause-frame g c = (run_stands c.args.root.now.deck c.args.step 
 
 pub returns-in-Err : goal.returns-in-Err
 returns-in-Err g c = large_multipliers c.args.root.now.deck c.args.step (g.B.Board.state c.args.board.now) _ c.refused.result c.in-Err.large c.requires.run c.requires.ended c.one_and_none.ensures c.in-Err.ensures.refused c.refused.ensures
+
+pub returns-in-Err-vertex : goal.returns-in-Err-vertex
+returns-in-Err-vertex g c =
+    large_vertex c.args.root.now.deck c.args.step (g.B.Board.state c.args.board.now) c.in-Ok.y c.refused-in-Err-vertex.result c.in-Err-vertex.large c.requires.run c.requires.ended c.in-Ok.ensures.value c.in-Ok.ensures.small c.in-Err-vertex.ensures.refused
+    c.refused-in-Err-vertex.ensures

@@ -1,0 +1,11 @@
+pub mod Combinations
+pub mod DeckBoards
+pub mod FeasibleVertex
+pub mod LeafBridge
+pub mod ListSums
+pub mod Multiples
+pub mod NoPoint
+pub mod PricedBoards
+pub mod ReadNumbers
+pub mod StrongDuality
+pub mod Wholes
