@@ -1,5 +1,5 @@
 -- The lines between the tolerance and the point are those that are read.
-use Rattle.std.proofs.Common.{◌≡◌, ◌≢◌, ℕ, true, false, List, [], ◌∷◌, ◌++◌, codes, Option, Some, IfSome, refl, sym, subst, ap, ◌∙◌}
+use Rattle.std.proofs.Common.{◌≡◌, ◌≢◌, ℕ, true, false, List, [], ◌∷◌, ◌++◌, codes, Some, IfSome, refl, subst, ap, ◌∙◌}
 use Rattle.std.specs.List.{list_all}
 use Rattle.um_text.specs.Words.{is_word_byte}
 use Rattle.um_model.specs.declared.answer.AnswerKind.{AnswerKind}
@@ -7,12 +7,13 @@ use Rattle.um_model.specs.declared.answer.AnswerKind.TheVariants as kind
 use Rattle.umpire.specs.FirstTrees.{IsFraction, IsWhy}
 use Rattle.umpire.specs.PartReading.{kind_named, head_at}
 use Rattle.umpire.specs.TreeReading.{then_step, word_at, maybe_fraction}
-use Rattle.umpire.specs.TreeText.{kind_word, fraction_or_none, why_words}
+use Rattle.um_treetext.specs.TreeText.{kind_word, why_words}
+use Rattle.um_text.specs.NumberWords.{fraction_or_none}
 use Rattle.umpire.specs.WhyReading.{why_at}
 use Rattle.umpire.specs.declared.tree_text.parts.Head.{Head}
 use Rattle.umpire.proofs.WordEnds.{goes_on, some_same}
 use Rattle.umpire.proofs.WordForms.{then_some, maybe_bytes, maybe_text, maybe_from, word_at_text, word_at_from, named_from}
-use Rattle.umpire.proofs.TextParts.{words_onto, blank_next}
+use Rattle.umpire.proofs.TextParts.{words_onto}
 use Rattle.umpire.proofs.WhyTexts.{why_text, why_from}
 
 kind_bytes : (k : AnswerKind) → list_all is_word_byte (kind_word k) ≡ true

@@ -8,15 +8,16 @@ use Rattle.std.proofs.lemmas.Bool.{cases_Bool, and_parts}
 use Rattle.std.proofs.lemmas.List.Elements.{All-cons, All-head, All-tail}
 use Rattle.um_num.specs.Numbers.{IsInRange}
 use Rattle.um_text.specs.Words.{is_word_byte}
-use Rattle.um_model.specs.Values.{PointValue, MultipliersValue}
-use Rattle.um_model.specs.declared.multipliers.Price.{Price}
+use Rattle.um_model.specs.Values.{PointValue}
+use Rattle.um_multipliers.specs.PlainMultipliers.{MultipliersValue}
+use Rattle.um_multipliers.specs.declared.multipliers.Price.{Price}
 use Rattle.um_model.specs.declared.tree.Solved.{Solved}
-use Rattle.umpire.specs.AnswerValues.{NodeValue, WhatValue, Split, Bounded, Empty, Void, OpenLeaf}
-use Rattle.umpire.specs.FirstTrees.{IsPointOver, IsSolved, IsPrice, AreMultipliersOver, AreEmptyOver, IsLeafWhat, IsLeafOver}
+use Rattle.um_model.specs.AnswerValues.{NodeValue, WhatValue, Split, Bounded, Empty, Void, OpenLeaf}
+use Rattle.umpire.specs.FirstTrees.{IsPointOver, IsSolved, IsPrice, AreMultipliersOver, IsLeafWhat, IsLeafOver}
 use Rattle.umpire.specs.LeafReading.{leaf_word, leaf_named, empty_of, leaf_what, multipliers_at, leaf_at}
 use Rattle.umpire.specs.PartReading.{point_behind, maybe_point_at}
 use Rattle.umpire.specs.TreeReading.{after, then_step, with_rest, rest_of, word_at, number_at, signed_at, natural_below, from_zero, from_one, numbers_at, point_at, solved_from, work_at, solved_behind, solved_at, price_value, one_more, prices_at, are_rows_rising}
-use Rattle.umpire.specs.TreeText.{point_words, price_word, what_words}
+use Rattle.um_treetext.specs.TreeText.{point_words, price_word, what_words}
 use Rattle.umpire.specs.declared.tree_text.leaf.LeafWord.{LeafWord}
 use Rattle.umpire.specs.declared.tree_text.leaf.LeafWord.TheVariants as leaf
 use Rattle.umpire.proofs.Numerals.{decimal_digits, digit_at}

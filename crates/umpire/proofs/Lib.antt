@@ -1,4 +1,3 @@
-pub mod Stops
 pub mod OneLeaf
 pub mod Stepping
 pub mod Rising
@@ -14,6 +13,8 @@ pub mod LeafTexts
 pub mod Fields
 pub mod WholeTexts
 pub mod Calls
-pub mod Written
-pub mod Rooms
-pub mod ReportLines
+pub mod CheckCalls
+pub mod FileReads
+pub mod Sayings
+pub mod Reportable
+pub mod SolveCalls

@@ -1,7 +1,7 @@
 -- The readers of lists, as far as they have come.
 use Rattle.std.proofs.Common.{◌≡◌, ℕ, suc, ◌+◌, ◌-◌, ◌<◌, ◌≤◌, List, [], ◌∷◌, ◌++◌, length, take_while, Option, Some, None, ℤ, codes, refl, sym, ap, ◌∙◌, arith, append_assoc, length-append}
 use Rattle.um_text.specs.Words.{is_word_byte}
-use Rattle.um_model.specs.declared.multipliers.Price.{Price}
+use Rattle.um_multipliers.specs.declared.multipliers.Price.{Price}
 use Rattle.umpire.specs.TreeReading.{then_step, after, number_at, numbers_at, price_value, one_more, prices_at, rest_of}
 
 -- items that were read before

@@ -4,12 +4,15 @@ use Rattle.std.specs.Prelude.{AllPairs}
 use Rattle.std.proofs.lemmas.Bool.{cases_Bool, and_from, and_parts, lt-ltb, ltb-true}
 use Rattle.std.proofs.lemmas.List.Sums.{AllPass-from_list_all, list_all-from_AllPass}
 use Rattle.um_laws.proofs.RisingLists.{rises_between}
-use Rattle.um_model.specs.Checkable.{HasRisingRows}
-use Rattle.um_model.specs.declared.multipliers.Price.{Price}
-use Rattle.umpire.specs.Trees.{RowsRise}
+use Rattle.um_multipliers.specs.NormalForm.{HasRisingRows}
+use Rattle.um_multipliers.specs.declared.multipliers.Price.{Price}
 use Rattle.umpire.specs.TreeReading.{do_rows_rise, are_rows_rising}
 
-pub rises_next : (ps : List Price) → AllPairs (λ (a : Price) (b : Price). a.row < b.row) ps → RowsRise ps
+-- each row is above the one before
+abbrev RowsRise : List Price → Type 0
+RowsRise prices = (k : ℕ) (d : Price) → k + 1 < length prices → (get_or prices k d).row < (get_or prices (k + 1) d).row
+
+rises_next : (ps : List Price) → AllPairs (λ (a : Price) (b : Price). a.row < b.row) ps → RowsRise ps
 rises_next ps h = λ k d below. h k (k + 1) d (omega arith) below
 
 -- the rows behind the first rise too

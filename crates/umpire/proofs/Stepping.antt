@@ -12,7 +12,7 @@ use Rattle.um_num.specs.Views.{rational}
 use Rattle.um_model.specs.Values.{DeckValue}
 use Rattle.umpire.specs.FirstTrees.{is_one_word}
 use Rattle.umpire.specs.PartReading.{maybe_point_at}
-use Rattle.umpire.specs.TreeText.{name_word}
+use Rattle.um_treetext.specs.TreeText.{name_word}
 use Rattle.umpire.specs.declared.outcome.TreeWord.{TreeWord}
 use Rattle.umpire.specs.declared.outcome.TreeWord.TheVariants.{NotYet, Memory}
 use Rattle.umpire.specs.TreeReading.{IsRefused, Steps, Reads, Gives, then_step, after, rest_of, with_rest, number_at, number_value, number_or_none, counted, counts_at, deck_at, natural_below, nonzero, from_zero, from_one, reduced, solved_at, work_at, point_at, at_end}

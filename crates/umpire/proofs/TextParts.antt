@@ -7,7 +7,8 @@ use Rattle.std.proofs.lemmas.Bool.{cases_Bool, eqb-true}
 use Rattle.um_model.specs.Values.{DeckValue}
 use Rattle.umpire.specs.FirstTrees.{IsTolerance, is_one_word}
 use Rattle.umpire.specs.TreeReading.{after, then_step, with_rest, number_at, counted, count_at, counts_at, deck_at, natural_below, tolerance_from, tolerance_at}
-use Rattle.umpire.specs.TreeText.{behind_blanks, line_text, lines_text, name_word}
+use Rattle.um_treetext.specs.TreeText.{name_word}
+use Rattle.um_text.specs.Texts.{line_rest, line_text, lines_text}
 use Rattle.umpire.proofs.Stepping.{after_append, after_some, counted_ok, below_ok}
 use Rattle.umpire.proofs.WordEnds.{goes_on, number_text, number_from, nothing_is_some, some_same, some_with_rest}
 use Rattle.umpire.proofs.WordForms.{then_some, below_from}
@@ -26,14 +27,13 @@ abbrev pub lines_onto : List (List (List ℕ)) → List ℕ
 lines_onto [] = []
 lines_onto (words ∷ lines) = line_onto words (lines_onto lines)
 
-words_are : (ws : List (List ℕ)) (t : List ℕ) → behind_blanks ws ++ t ≡ words_onto ws t
-words_are [] t = refl
-words_are (w ∷ ws) t = ap (λ (l : List ℕ). 32 ∷ l) (append_assoc w (behind_blanks ws) t ∙ ap (λ l. w ++ l) (words_are ws t))
+rest_is : (ws : List (List ℕ)) (t : List ℕ) → line_rest ws ++ t ≡ words_onto ws (10 ∷ t)
+rest_is [] t = refl
+rest_is (w ∷ ws) t = ap (λ (l : List ℕ). 32 ∷ l) (append_assoc w (line_rest ws) t ∙ ap (λ l. w ++ l) (rest_is ws t))
 
 line_is : (ws : List (List ℕ)) (t : List ℕ) → line_text ws ++ t ≡ line_onto ws t
 line_is [] t = refl
-line_is (w ∷ ws) t =
-    append_assoc w (behind_blanks ws ++ 10 ∷ []) t ∙ ap (λ l. w ++ l) (append_assoc (behind_blanks ws) (10 ∷ []) t ∙ words_are ws (10 ∷ t))
+line_is (w ∷ ws) t = append_assoc w (line_rest ws) t ∙ ap (λ l. w ++ l) (rest_is ws t)
 
 pub lines_are : (ls : List (List (List ℕ))) → lines_text ls ≡ lines_onto ls
 lines_are [] = refl

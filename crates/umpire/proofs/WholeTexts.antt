@@ -6,14 +6,15 @@ use Rattle.um_model.specs.Values.{DeckValue, PointValue}
 use Rattle.um_model.specs.Checkable.{IsCheckable}
 use Rattle.um_model.specs.declared.answer.Answer.{Answer}
 use Rattle.um_model.specs.declared.tree.Solved.{Solved}
-use Rattle.umpire.specs.AnswerValues.{AnswerValue, NodeValue, plain_answer}
+use Rattle.um_model.specs.AnswerValues.{AnswerValue, NodeValue, plain_answer}
 use Rattle.umpire.specs.FirstAnswers.{IsFirstAnswer}
 use Rattle.umpire.specs.FirstReading.{do_fields_go, tree_at, answer_of, first_tree}
-use Rattle.umpire.specs.FirstTrees.{IsFirstTree, IsTolerance, IsPointOver, IsLeafOver, IsOneLeafOver, FieldsGoOf, is_one_word}
+use Rattle.umpire.specs.FirstTrees.{IsFirstTree, IsPointOver, IsLeafOver, IsOneLeafOver}
+use Rattle.um_model.specs.Accepted.{FieldsGo}
 use Rattle.umpire.specs.LeafReading.{leaf_at}
 use Rattle.umpire.specs.PartReading.{head_at, maybe_point_at}
 use Rattle.umpire.specs.TreeReading.{IsRefused, after, then_step, deck_at, tolerance_at, at_end}
-use Rattle.umpire.specs.TreeText.{point_words, node_words, tree_lines, tree_text}
+use Rattle.um_treetext.specs.TreeText.{point_words, node_words, tree_lines, tree_text}
 use Rattle.umpire.specs.declared.outcome.TreeWord.{TreeWord}
 use Rattle.umpire.specs.declared.outcome.TreeWord.TheVariants.{NotYet, Memory}
 use Rattle.umpire.specs.declared.tree_text.parts.Head.{Head}
@@ -153,7 +154,7 @@ gives_text d bytes a e =
     elim (cases_Bool (do_fields_go h.got.0 (is_some r.got.0))) [
       | inl go ↦
           let f : Some made ≡ Some a = rw go at r.rest in
-          let fields : FieldsGoOf made = fields_from made go refl in
+          let fields : FieldsGo made = fields_from made go refl in
           let P : AnswerValue → Type 0 = λ q. IsFirstTree d q × (bytes ≡ tree_text d q) in
           subst P (some_same made a f) (
             record {
@@ -187,12 +188,12 @@ pub read_text : (d : DeckValue) (bytes : List ℕ) (r : Result Answer TreeWord) 
 read_text d bytes (Ok a) h = (gives_text d bytes (plain_answer a) h).1
 read_text d bytes (Err word) h = tt
 
-pub read_checkable : (d : DeckValue) (bytes : List ℕ) (r : Result Answer TreeWord) → HasRead d bytes r → IfOk r (IsCheckable d)
-read_checkable d bytes (Ok a) h = checkable d a (gives_text d bytes (plain_answer a) h).0
+pub read_checkable : (d : DeckValue) (bytes : List ℕ) (r : Result Answer TreeWord) → HasRead d bytes r → IfOk r (λ answer. IsCheckable d (plain_answer answer))
+read_checkable d bytes (Ok a) h = checkable d (plain_answer a) (gives_text d bytes (plain_answer a) h).0
 read_checkable d bytes (Err word) h = tt
 
-pub read_first_answer : (d : DeckValue) (bytes : List ℕ) (r : Result Answer TreeWord) → HasRead d bytes r → IfOk r IsFirstAnswer
-read_first_answer d bytes (Ok a) h = first_answer d a (gives_text d bytes (plain_answer a) h).0
+pub read_first_answer : (d : DeckValue) (bytes : List ℕ) (r : Result Answer TreeWord) → HasRead d bytes r → IfOk r (λ answer. IsFirstAnswer (plain_answer answer))
+read_first_answer d bytes (Ok a) h = first_answer d (plain_answer a) (gives_text d bytes (plain_answer a) h).0
 read_first_answer d bytes (Err word) h = tt
 
 pub read_exact : (d : DeckValue) (bytes : List ℕ) (r : Result Answer TreeWord) → HasCounts d → HasRead d bytes r → (a : AnswerValue) → IsFirstTree d a → bytes ≡ tree_text d a → MatchResult r (λ answer. plain_answer answer ≡ a) (λ word. word ≡ Memory)

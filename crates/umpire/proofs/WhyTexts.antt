@@ -1,5 +1,5 @@
 -- The words of a reason are those that are read.
-use Rattle.std.proofs.Common.{◌≡◌, ℕ, ◌<◌, ◌^◌, true, false, List, [], ◌∷◌, ◌++◌, decimal, codes, Option, Some, None, IfSome, refl, sym, subst, ap, ◌∙◌, arith}
+use Rattle.std.proofs.Common.{◌≡◌, ℕ, ◌<◌, ◌^◌, true, false, List, [], ◌∷◌, ◌++◌, decimal, codes, Option, Some, None, IfSome, refl, subst, ap, ◌∙◌, arith}
 use Rattle.std.specs.Fmt.{signed_decimal}
 use Rattle.std.specs.List.{list_all}
 use Rattle.um_num.specs.declared.exact.Op.{Op}
@@ -10,7 +10,7 @@ use Rattle.um_model.specs.declared.answer.Why.{Why}
 use Rattle.um_model.specs.declared.answer.Why.TheVariants as why
 use Rattle.umpire.specs.FirstTrees.{IsWide, IsEvent, IsWhy}
 use Rattle.umpire.specs.TreeReading.{then_step, word_at, signed_at, natural_at}
-use Rattle.umpire.specs.TreeText.{op_word, step_words, why_words}
+use Rattle.um_treetext.specs.TreeText.{op_word, why_words}
 use Rattle.umpire.specs.WhyReading.{first_word, why_named, op_named, wide_at, event_at, caused, pivot_of, value_of, cause_at, why_at}
 use Rattle.umpire.specs.declared.tree_text.why.Event.{Event}
 use Rattle.umpire.specs.declared.tree_text.why.WhyWord.{WhyWord}

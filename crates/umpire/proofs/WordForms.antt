@@ -14,10 +14,11 @@ use Rattle.um_laws.proofs.RationalParts.{same_fields}
 use Rattle.um_num.specs.Numbers.{IsInRange, IsReduced}
 use Rattle.um_num.specs.Views.{rational, num_is, den_is}
 use Rattle.um_text.specs.Words.{is_word_byte}
-use Rattle.um_model.specs.declared.multipliers.Price.{Price}
+use Rattle.um_multipliers.specs.declared.multipliers.Price.{Price}
 use Rattle.umpire.specs.FirstTrees.{IsFraction, IsPrice}
 use Rattle.umpire.specs.TreeReading.{after, then_step, rest_of, with_rest, number_value, sides_of, reduced, fraction_value, maybe_fraction, is_word, word_at, named, number_at, signed_at, natural_at, natural_below, nonzero, price_from, price_of, price_value, fraction_of}
-use Rattle.umpire.specs.TreeText.{fraction_word, fraction_or_none, price_word}
+use Rattle.um_treetext.specs.TreeText.{price_word}
+use Rattle.um_text.specs.NumberWords.{fraction_word, fraction_or_none}
 use Rattle.umpire.proofs.NumeralValues.{text_value, value_text}
 use Rattle.umpire.proofs.Stepping.{after_append, after_some, reduced_ok, below_ok, nonzero_ok}
 use Rattle.umpire.proofs.WordEnds.{goes_on, word_cut, signed_word, signed_no_slash, signed_no_colon, all_append, value_cut, number_text, number_from, sides_text, sides_none, sides_from, nothing_is_some, some_same, some_with_rest}

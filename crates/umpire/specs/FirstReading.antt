@@ -4,8 +4,7 @@ use Rattle.um_model.specs.Values.{DeckValue, PointValue}
 use Rattle.um_model.specs.declared.answer.AnswerKind.{AnswerKind}
 use Rattle.um_model.specs.declared.answer.AnswerKind.TheVariants as kind
 use Rattle.um_model.specs.declared.answer.Why.{Why}
-use Rattle.um_model.specs.declared.answer.Why.TheVariants as why
-use Rattle.umpire.specs.AnswerValues.{AnswerValue, NodeValue}
+use Rattle.um_model.specs.AnswerValues.{AnswerValue, NodeValue, kind_of_stop}
 use Rattle.umpire.specs.LeafReading.{leaf_at}
 use Rattle.umpire.specs.PartReading.{head_at, maybe_point_at}
 use Rattle.umpire.specs.TreeReading.{then_step, after, at_end, deck_at, tolerance_at}
@@ -13,31 +12,20 @@ use Rattle.umpire.specs.declared.tree_text.parts.Head.{Head}
 
 -- ---- whether the fields are those of the answer's kind
 
-abbrev pub is_limit : Why → Bool
-is_limit why.Nodes = true
-is_limit why.Pivots = true
-is_limit (why.Points column) = true
-is_limit (why.Grid number) = true
-is_limit (why.Pivot number step wide) = false
-is_limit (why.Value number step wide) = false
-is_limit (why.Leaf number) = false
-is_limit (why.Vertex number) = false
-is_limit why.Ray = false
+abbrev pub is_limit : AnswerKind → Bool
+is_limit kind.Limit = true
+is_limit other = false
 
-abbrev pub is_some_limit : Option Why → Bool
-is_some_limit None = false
-is_some_limit (Some w) = is_limit w
-
-abbrev pub is_some_overflow : Option Why → Bool
-is_some_overflow None = false
-is_some_overflow (Some w) = not (is_limit w)
+abbrev pub is_overflow : AnswerKind → Bool
+is_overflow kind.Overflow = true
+is_overflow other = false
 
 abbrev pub does_why_go : AnswerKind → Option Why → Bool
-does_why_go kind.Optimal w = not (is_some w)
-does_why_go kind.Infeasible w = not (is_some w)
-does_why_go kind.Unbounded w = not (is_some w)
-does_why_go kind.Limit w = is_some_limit w
-does_why_go kind.Overflow w = is_some_overflow w
+does_why_go kind.Limit None = false
+does_why_go kind.Limit (Some w) = is_limit (kind_of_stop w)
+does_why_go kind.Overflow None = false
+does_why_go kind.Overflow (Some w) = is_overflow (kind_of_stop w)
+does_why_go other w = not (is_some w)
 
 abbrev pub do_both_or_none : Bool → Bool → Bool
 do_both_or_none true objective = objective

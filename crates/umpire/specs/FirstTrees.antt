@@ -1,20 +1,19 @@
 -- The answers that the reader of trees of one leaf takes.
-use Rattle.std.specs.Prelude.{◌≡◌, ◌≢◌, ◌↔◌, ℕ, ◌<◌, ◌^◌, Bool, ◌||◌, not, nat_eq, ℤ, pos, ◌≤ℤ◌, unsigned_abs, List, [], ◌∷◌, length, All, None, IsSome, IsNone, IfSome, true, ⊤}
+use Rattle.std.specs.Prelude.{◌≡◌, ◌≢◌, ◌↔◌, ℕ, ◌<◌, ◌^◌, Bool, ◌||◌, not, nat_eq, ℤ, pos, ◌≤ℤ◌, unsigned_abs, List, [], ◌∷◌, length, All, None, IfSome, true, ⊤}
 use Rattle.std.specs.List.{list_all}
 use Rattle.um_laws.specs.Rational.{Rational}
 use Rattle.um_num.specs.Numbers.{IsInRange}
 use Rattle.um_num.specs.declared.exact.Wide.{Wide}
-use Rattle.um_model.specs.Values.{DeckValue, PointValue, MultipliersValue}
-use Rattle.um_model.specs.Checkable.{HasRisingRows}
-use Rattle.um_model.specs.Accepted.{WhyGoes}
-use Rattle.um_model.specs.declared.answer.AnswerKind.{AnswerKind}
+use Rattle.um_model.specs.Values.{DeckValue, PointValue}
+use Rattle.um_multipliers.specs.PlainMultipliers.{MultipliersValue}
+use Rattle.um_multipliers.specs.NormalForm.{HasRisingRows}
+use Rattle.um_model.specs.Accepted.{FieldsGo}
 use Rattle.um_model.specs.declared.answer.AnswerKind.TheVariants as kind
 use Rattle.um_model.specs.declared.answer.Why.{Why}
 use Rattle.um_model.specs.declared.answer.Why.TheVariants as why
-use Rattle.um_model.specs.declared.multipliers.Price.{Price}
+use Rattle.um_multipliers.specs.declared.multipliers.Price.{Price}
 use Rattle.um_model.specs.declared.tree.Solved.{Solved}
-use Rattle.umpire.specs.AnswerValues.{AnswerValue, NodeValue, WhatValue}
-use Rattle.umpire.specs.AnswerValues.{Split, Bounded, Empty, Void, OpenLeaf}
+use Rattle.um_model.specs.AnswerValues.{AnswerValue, NodeValue, WhatValue, Bounded, Empty, OpenLeaf}
 
 -- any byte but blank, tab and LF
 abbrev pub is_name_byte : ℕ → Bool
@@ -64,20 +63,18 @@ pub record AreEmptyOver (rows : ℕ) (y : MultipliersValue) : Type 0 where
   pub multipliers : AreMultipliersOver rows y
 
 abbrev pub IsLeafWhat : ℕ → WhatValue → Type 0
-IsLeafWhat rows (Split branch) = ⊥
 IsLeafWhat rows (Bounded y) = AreMultipliersOver rows y
 IsLeafWhat rows (Empty y) = AreEmptyOver rows y
-IsLeafWhat rows (Void column) = ⊥
 IsLeafWhat rows (OpenLeaf y) = AreMultipliersOver rows y
+IsLeafWhat rows other = ⊥
 
 pub record IsLeafOver (rows : ℕ) (n : NodeValue) : Type 0 where
   pub solved : IfSome n.solved IsSolved
   pub what : IsLeafWhat rows n.what
 
 abbrev pub IsOneLeafOver : ℕ → List NodeValue → Type 0
-IsOneLeafOver rows [] = ⊥
 IsOneLeafOver rows (n ∷ []) = IsLeafOver rows n
-IsOneLeafOver rows (n ∷ (m ∷ ns)) = ⊥
+IsOneLeafOver rows other = ⊥
 
 -- ---- why a search stopped early
 
@@ -103,51 +100,13 @@ IsWhy (why.Leaf number) = number < 2 ^ 32
 IsWhy (why.Vertex number) = number < 2 ^ 32
 IsWhy why.Ray = ⊤
 
--- ---- the fields of each kind
-
--- a point, its objective and a bound
-pub record HasOptimalFields (a : AnswerValue) : Type 0 where
-  pub point : IsSome a.point
-  pub objective : IsSome a.objective
-  pub bound : IsSome a.bound
-  pub ray : IsNone a.ray
-
-pub record HasInfeasibleFields (a : AnswerValue) : Type 0 where
-  pub point : IsNone a.point
-  pub objective : IsNone a.objective
-  pub bound : IsNone a.bound
-  pub ray : IsNone a.ray
-
--- a point and a ray, and no tree
-pub record HasUnboundedFields (a : AnswerValue) : Type 0 where
-  pub point : IsSome a.point
-  pub objective : IsNone a.objective
-  pub bound : IsNone a.bound
-  pub ray : IsSome a.ray
-  pub tree : a.tree ≡ []
-
--- an objective exactly where there is a point
-pub record HasStoppedFields (a : AnswerValue) : Type 0 where
-  pub objective : IsSome a.objective ↔ IsSome a.point
-  pub ray : IsNone a.ray
-
-abbrev pub HasFieldsOf : AnswerKind → AnswerValue → Type 0
-HasFieldsOf kind.Optimal a = HasOptimalFields a
-HasFieldsOf kind.Infeasible a = HasInfeasibleFields a
-HasFieldsOf kind.Unbounded a = HasUnboundedFields a
-HasFieldsOf kind.Limit a = HasStoppedFields a
-HasFieldsOf kind.Overflow a = HasStoppedFields a
-
--- the fields are those of the answer's kind
-pub record FieldsGoOf (a : AnswerValue) : Type 0 where
-  pub reason : WhyGoes a.kind a.why
-  pub fields : HasFieldsOf a.kind a
+-- ---- the answers
 
 -- an answer that is not unbounded, has the fields of its kind and no ray, and whose tree is one leaf with multipliers, for a deck whose name is one word
 pub record IsFirstTree (d : DeckValue) (a : AnswerValue) : Type 0 where
   pub name : is_one_word d.name ≡ true
   pub kind : a.kind ≢ kind.Unbounded
-  pub fields : FieldsGoOf a
+  pub fields : FieldsGo a
   pub tolerance : IsTolerance a.tolerance
   pub why : IfSome a.why IsWhy
   pub objective : IfSome a.objective IsFraction

@@ -1,7 +1,7 @@
 -- How the reader of trees reads a leaf with multipliers.
 use Rattle.std.specs.Prelude.{ℕ, zero, suc, if◌then◌else◌, ℤ, pos, negsuc, List, [], ◌∷◌, length, Option, Some, None, codes}
-use Rattle.um_model.specs.Values.{MultipliersValue}
-use Rattle.umpire.specs.AnswerValues.{NodeValue, WhatValue, Bounded, Empty, OpenLeaf}
+use Rattle.um_multipliers.specs.PlainMultipliers.{MultipliersValue}
+use Rattle.um_model.specs.AnswerValues.{NodeValue, WhatValue, Bounded, Empty, OpenLeaf}
 use Rattle.umpire.specs.TreeReading.{then_step, word_at, named, signed_at, from_zero, solved_at, prices_at, are_rows_rising}
 use Rattle.umpire.specs.declared.tree_text.leaf.LeafWord.{LeafWord}
 use Rattle.umpire.specs.declared.tree_text.leaf.LeafWord.TheVariants as leaf

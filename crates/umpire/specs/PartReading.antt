@@ -4,7 +4,7 @@ use Rattle.um_model.specs.Values.{PointValue}
 use Rattle.um_model.specs.declared.answer.AnswerKind.{AnswerKind}
 use Rattle.um_model.specs.declared.answer.AnswerKind.TheVariants as kind
 use Rattle.umpire.specs.TreeReading.{then_step, after, word_at, named, maybe_fraction, point_at}
-use Rattle.umpire.specs.TreeText.{kind_word}
+use Rattle.um_treetext.specs.TreeText.{kind_word}
 use Rattle.umpire.specs.WhyReading.{why_at}
 use Rattle.umpire.specs.declared.tree_text.parts.Head.{Head}
 

@@ -9,10 +9,10 @@ use Rattle.um_text.specs.Numerals.{whole_number}
 use Rattle.um_text.specs.Words.{is_word_byte}
 use Rattle.um_text.specs.declared.numeral.NumberFault.{NumberFault}
 use Rattle.um_model.specs.Values.{DeckValue, PointValue}
-use Rattle.um_model.specs.declared.multipliers.Price.{Price}
+use Rattle.um_multipliers.specs.declared.multipliers.Price.{Price}
 use Rattle.um_model.specs.declared.tree.Solved.{Solved}
 use Rattle.umpire.specs.FirstTrees.{is_one_word}
-use Rattle.umpire.specs.TreeText.{name_word}
+use Rattle.um_treetext.specs.TreeText.{name_word}
 use Rattle.umpire.specs.declared.outcome.TreeWord.{TreeWord}
 use Rattle.umpire.specs.declared.outcome.TreeWord.TheVariants.{NotYet, Memory}
 

@@ -6,7 +6,7 @@ use Rattle.um_num.specs.declared.exact.Wide.{Wide}
 use Rattle.um_model.specs.declared.answer.Why.{Why}
 use Rattle.um_model.specs.declared.answer.Why.TheVariants as why
 use Rattle.umpire.specs.TreeReading.{then_step, word_at, named, signed_at, natural_at}
-use Rattle.umpire.specs.TreeText.{op_word}
+use Rattle.um_treetext.specs.TreeText.{op_word}
 use Rattle.umpire.specs.declared.tree_text.why.Event.{Event}
 use Rattle.umpire.specs.declared.tree_text.why.WhyWord.{WhyWord}
 use Rattle.umpire.specs.declared.tree_text.why.WhyWord.TheVariants as first

@@ -2,9 +2,10 @@
 
 ghost use Rattle.std.specs.Prelude.{◌≡◌, ◌↔◌, IsTrue, IfOk, Some, None};
 ghost use Rattle.um_model.specs.Accepted.{IsVerdict};
+ghost use Rattle.um_model.specs.AnswerValues.{plain_answer};
 ghost use Rattle.um_model.specs.Checkable.{IsCheckable};
 ghost use Rattle.umpire.specs.FirstAnswers.{IsFirstAnswer};
-ghost use Rattle.um_deck.specs.Decks.{IsPlain};
+ghost use Rattle.um_deck.specs.Decks.{HasNoSetsOrArcs};
 
 mod leaf;
 mod point;
@@ -39,7 +40,7 @@ impl<'d> Model for Checker<'d> {
 impl<'d> Checker<'d> {
     /// The error is want of memory.
     pub fn new(alloc: Global, deck: &'d Deck) -> Result<Checker<'d>, Memory>
-        requires { IsPlain deck.now }
+        requires { HasNoSetsOrArcs deck.now }
         ensures { IfOk result (λ checker. checker ≡ deck.now) }
     {
         let root = NodeBox::root(alloc, deck)?;
@@ -51,9 +52,9 @@ impl<'d> Checker<'d> {
     /// answers that are not unbounded and have the fields of their kind, and whose tree is one leaf
     /// with multipliers.
     pub fn verdict(&mut self, answer: &Answer) -> Verdict
-        requires checkable { IsCheckable self.old answer.now }
-        requires first { IsFirstAnswer answer.now }
-        ensures verdict { IsVerdict self.old answer.now result }
+        requires checkable { IsCheckable self.old (plain_answer answer.now) }
+        requires first { IsFirstAnswer (plain_answer answer.now) }
+        ensures verdict { IsVerdict self.old (plain_answer answer.now) result }
         ensures deck { self.new ≡ self.old }
     {
         let deck = self.deck;

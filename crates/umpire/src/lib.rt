@@ -7,16 +7,16 @@
 //! is written before the text is known, and after a fault of the outside nothing more is called.
 #![tactic(auto)]
 
-pub mod checker;
-pub mod lines;
-pub mod outcome;
-pub mod reading;
-pub mod report;
-pub mod solving;
-pub mod top;
-pub mod tree_text;
-pub mod tree_writer;
-pub mod words;
+mod checker;
+mod commands;
+mod ending;
+mod outcome;
+mod reading;
+mod refusals;
+mod saying;
+mod top;
+mod tree_text;
+mod words;
 
 pub use checker::Checker;
 pub use outcome::{Outcome, ReadFault, Refusal, Status, TreeFault, TreeWord, WordFault};

@@ -1,6 +1,6 @@
 //! How a call ended.
 
-ghost use Rattle.umpire.specs.Statuses.{status_number};
+ghost use Rattle.umpire.specs.Endings.{status_number};
 ghost use Rattle.std.specs.Prelude.{◌≡◌};
 
 use thiserror::Error;

@@ -1,32 +1,34 @@
-//! From the names of a deck and a tree to the verdict.
+//! From the name of a file to the deck or the answer that its text is.
 
 ghost use Rattle.std.specs.Prelude.{◌≡◌, false, IfOk, IfErr};
-ghost use Rattle.um_deck.specs.Decks.{IsPlain};
+ghost use Rattle.um_deck.specs.Decks.{HasNoSetsOrArcs};
+ghost use Rattle.um_model.specs.AnswerValues.{plain_answer};
 ghost use Rattle.um_model.specs.Checkable.{IsCheckable};
-ghost use Rattle.umpire.specs.Findings.{HasDeck, HasTree, HasNoDeck, HasNoTree, IsFinding};
+ghost use Rattle.umpire.specs.Findings.{HasDeck, HasTree, HasNoDeck, HasNoTree, unread_deck, unread_tree};
 ghost use Rattle.umpire.specs.FirstAnswers.{IsFirstAnswer};
 ghost use Rattle.um_outside.specs.Scenes.{Idle};
-ghost use Rattle.umpire.specs.Words.{Check};
-ghost use Rattle.umpire.specs.Readings.{FileStopped, HasJudged, WasStopped, deck_refusal, tree_refusal, deck_stop, tree_stop};
+ghost use Rattle.umpire.specs.Stops.{FileStopped, deck_stop, tree_stop};
 
-use crate::checker::Checker;
 use crate::outcome::{ReadFault, Refusal, TreeFault, TreeWord};
 use crate::tree_text::read_first;
-use crate::words::CheckFiles;
 use std::alloc::Global;
+use thiserror::Error;
 use um_deck::{Deck, Fault, first};
-use um_model::{Answer, Verdict};
+use um_model::Answer;
 use um_num::Memory;
 use um_outside::{Desk, FileFault, read_file};
 
 /// The most bytes of a deck or of a tree.
 const MOST_BYTES: usize = 65_536;
 
-/// Why there is no verdict.
-#[derive(Clone, Copy, PartialEq, Eq, Debug)]
+/// Why a command comes to nothing.
+#[derive(Clone, Copy, PartialEq, Eq, Debug, Error)]
 pub enum Stop {
+    #[error("refused: {0:?}")]
     Refused(Refusal),
+    #[error("a fault of the outside")]
     Fault,
+    #[error("no memory")]
     Memory,
 }
 
@@ -40,39 +42,13 @@ impl From<Memory> for Stop {
     }
 }
 
-/// Reads a deck and then a tree, and checks the tree.
-pub fn judge<D: Desk>(alloc: Global, desk: &mut D, files: &CheckFiles<'_>) -> Result<Verdict, Stop>
-    requires idle { (D.scene desk.old).mode ≡ Idle }
-    requires going { (D.scene desk.old).stopped ≡ false }
-    ensures ok { IfOk result (λ verdict. HasJudged (files.now.deck.now, files.now.tree.now) verdict (D.scene desk.old) (D.scene desk.new)) }
-    ensures err { IfErr result (λ stop. WasStopped (Check (files.now.deck.now, files.now.tree.now)) stop (D.scene desk.old) (D.scene desk.new)) }
-{
-    let deck = read_deck(alloc, desk, files.deck)?;
-    match read_tree(alloc, desk, &deck, files.tree) {
-        Ok(answer) => check(alloc, &deck, &answer),
-        Err(stop) => Err(stop),
-    }
-}
-
-fn check(alloc: Global, deck: &Deck, answer: &Answer) -> Result<Verdict, Stop>
-    requires plain { IsPlain deck.now }
-    requires checkable { IsCheckable deck.now answer.now }
-    requires first { IsFirstAnswer answer.now }
-    ensures ok { IfOk result (IsFinding deck.now answer.now) }
-    ensures err { IfErr result (λ stop. stop ≡ Stop.Memory) }
-{
-    deck.known();
-    let mut checker = Checker::new(alloc, deck)?;
-    Ok(checker.verdict(answer))
-}
-
 /// A file that is too long is in a form that is not read yet.
 pub(crate) fn read_deck<D: Desk>(alloc: Global, desk: &mut D, name: &str) -> Result<Deck, Stop>
     requires idle { (D.scene desk.old).mode ≡ Idle }
     requires going { (D.scene desk.old).stopped ≡ false }
     ensures ok { IfOk result (λ deck. HasDeck name.now deck (D.scene desk.old) (D.scene desk.new)) }
-    ensures plain { IfOk result IsPlain }
-    ensures err { IfErr result (λ stop. FileStopped deck_refusal (HasNoDeck name.now) stop (D.scene desk.old) (D.scene desk.new)) }
+    ensures plain { IfOk result HasNoSetsOrArcs }
+    ensures err { IfErr result (λ stop. FileStopped name.now (Refusal.Deck unread_deck) (HasNoDeck name.now) stop (D.scene desk.old) (D.scene desk.new)) }
 {
     let bytes = match read_file(alloc, desk, name, MOST_BYTES) {
         Ok(bytes) => bytes,
@@ -86,13 +62,18 @@ pub(crate) fn read_deck<D: Desk>(alloc: Global, desk: &mut D, name: &str) -> Res
     }
 }
 
-fn read_tree<D: Desk>(alloc: Global, desk: &mut D, deck: &Deck, name: &str) -> Result<Answer, Stop>
+pub(crate) fn read_tree<D: Desk>(
+    alloc: Global,
+    desk: &mut D,
+    deck: &Deck,
+    name: &str,
+) -> Result<Answer, Stop>
     requires idle { (D.scene desk.old).mode ≡ Idle }
     requires going { (D.scene desk.old).stopped ≡ false }
-    ensures ok { IfOk result (λ answer. HasTree deck.now name.now answer (D.scene desk.old) (D.scene desk.new)) }
-    ensures checkable { IfOk result (IsCheckable deck.now) }
-    ensures first { IfOk result IsFirstAnswer }
-    ensures err { IfErr result (λ stop. FileStopped tree_refusal (HasNoTree deck.now name.now) stop (D.scene desk.old) (D.scene desk.new)) }
+    ensures ok { IfOk result (λ answer. HasTree deck.now name.now (plain_answer answer) (D.scene desk.old) (D.scene desk.new)) }
+    ensures checkable { IfOk result (λ answer. IsCheckable deck.now (plain_answer answer)) }
+    ensures first { IfOk result (λ answer. IsFirstAnswer (plain_answer answer)) }
+    ensures err { IfErr result (λ stop. FileStopped name.now (Refusal.Tree unread_tree) (HasNoTree deck.now name.now) stop (D.scene desk.old) (D.scene desk.new)) }
 {
     let bytes = match read_file(alloc, desk, name, MOST_BYTES) {
         Ok(bytes) => bytes,

@@ -3,12 +3,12 @@
 ghost use Rattle.std.specs.Prelude.{◌≡◌, ◌<◌, ◌^◌, ℕ, List, Bool, is_some, option_map, length, IfOk, ◌∷◌, [], MatchResult, OnErr, Err, Some, None};
 ghost use Rattle.um_model.specs.Values.{plain_point};
 ghost use Rattle.um_model.specs.Checkable.{IsCheckable};
-ghost use Rattle.umpire.specs.AnswerValues.{AnswerValue, plain_answer, plain_node};
+ghost use Rattle.um_model.specs.AnswerValues.{AnswerValue, plain_answer, plain_node};
 ghost use Rattle.umpire.specs.FirstAnswers.{IsFirstAnswer};
-ghost use Rattle.umpire.specs.FirstReading.{first_tree, tree_at, does_why_go, do_parts_go, is_limit, do_fields_go};
+ghost use Rattle.umpire.specs.FirstReading.{first_tree, tree_at, does_why_go, do_parts_go, is_limit, is_overflow, do_fields_go};
 ghost use Rattle.umpire.specs.FirstTrees.{IsFirstTree, is_one_word, is_name_byte};
 ghost use Rattle.umpire.specs.TreeReading.{IsRefused, Steps, Reads, Gives, tolerance_from, count_at, counts_at, deck_at, tolerance_at};
-ghost use Rattle.umpire.specs.TreeText.{tree_text, name_word};
+ghost use Rattle.um_treetext.specs.TreeText.{tree_text};
 
 pub mod leaf;
 pub mod numbers;
@@ -23,6 +23,7 @@ use std::alloc::Global;
 use um_deck::Deck;
 use um_model::{Answer, AnswerKind, Node, Point, Tree, TreeFull, Why};
 use um_text::Cursor;
+use um_treetext::name_word;
 
 /// The answer of which these bytes are the text for this deck, where it is not unbounded, has the
 /// fields of its kind and no ray, and its tree is one leaf with multipliers.
@@ -30,8 +31,8 @@ use um_text::Cursor;
 /// The other answers are `NotYet`, for bytes that are no such text, and want of memory. The deck's
 /// name must be one word, of bytes but blank, tab and LF; no name is written `-`.
 pub fn read_first(alloc: Global, deck: &Deck, bytes: &[u8]) -> Result<Answer, TreeWord>
-    ensures checkable { IfOk result (IsCheckable deck.now) }
-    ensures first { IfOk result IsFirstAnswer }
+    ensures checkable { IfOk result (λ answer. IsCheckable deck.now (plain_answer answer)) }
+    ensures first { IfOk result (λ answer. IsFirstAnswer (plain_answer answer)) }
     ensures read { IfOk result (λ answer. IsFirstTree deck.now (plain_answer answer)) }
     ensures text { IfOk result (λ answer. bytes.now ≡ tree_text deck.now (plain_answer answer)) }
     ensures exact { (a : AnswerValue) → IsFirstTree deck.now a → bytes.now ≡ tree_text deck.now a → MatchResult result (λ answer. plain_answer answer ≡ a) (λ word. word ≡ TreeWord.Memory) }
@@ -94,25 +95,24 @@ fn does_why_go(kind: AnswerKind, why: Option<Why>) -> bool
     ensures { result ≡ does_why_go kind why }
 {
     match (kind, why) {
-        (AnswerKind::Limit, Some(why)) => is_limit(why),
-        (AnswerKind::Overflow, Some(why)) => !is_limit(why),
+        (AnswerKind::Limit, Some(why)) => is_limit(why.kind()),
+        (AnswerKind::Overflow, Some(why)) => is_overflow(why.kind()),
         (AnswerKind::Limit, None) => false,
         (AnswerKind::Overflow, None) => false,
         (_, why) => why.is_none(),
     }
 }
 
-/// Whether the search stopped at its budget or at a limit of its grid.
-fn is_limit(why: Why) -> bool
-    ensures { result ≡ is_limit why }
+fn is_limit(kind: AnswerKind) -> bool
+    ensures { result ≡ is_limit kind }
 {
-    match why {
-        Why::Nodes => true,
-        Why::Pivots => true,
-        Why::Points { .. } => true,
-        Why::Grid { .. } => true,
-        _ => false,
-    }
+    matches!(kind, AnswerKind::Limit)
+}
+
+fn is_overflow(kind: AnswerKind) -> bool
+    ensures { result ≡ is_overflow kind }
+{
+    matches!(kind, AnswerKind::Overflow)
 }
 
 /// Whether point, objective and bound are there as the kind wants them.
@@ -148,13 +148,6 @@ fn is_one_word(name: &[u8]) -> bool
 {
     name.iter()
         .all(|byte| *byte != b' ' && *byte != b'\t' && *byte != b'\n')
-}
-
-/// The word of a deck's name; a deck without a name has a hyphen in its place.
-pub(crate) fn name_word(name: &[u8]) -> &[u8]
-    ensures { result.now ≡ name_word name.now }
-{
-    if name.is_empty() { b"-" } else { name }
 }
 
 /// Steps over the counts of a deck, and the line's end.

@@ -1,12 +1,14 @@
 //! The verdict on a tree of one leaf.
 
-ghost use Rattle.std.specs.Prelude.{◌≡◌, ◌<◌, ◌^◌, pos, ◌<ℤ◌, All, IsTrue, ◌↔◌, unsigned_abs, length, MatchResult};
-ghost use Rattle.um_model.specs.Accepted.{IsSmallMultipliers, IsStopped, BoundedHolds};
+ghost use Rattle.std.specs.Prelude.{◌≡◌, ◌^◌, pos, ◌<ℤ◌, IsTrue, ◌↔◌, length, MatchResult};
+ghost use Rattle.um_model.specs.Accepted.{IsStopped, BoundedHolds};
+ghost use Rattle.um_multipliers.specs.Sizes.{AreBelow};
+ghost use Rattle.um_model.specs.AnswerValues.{Bounded, Empty, OpenLeaf, plain_answer, plain_what};
 ghost use Rattle.um_model.specs.Boxes.{root};
-ghost use Rattle.um_model.specs.Checkable.{IsCheckable, HasRisingRows};
+ghost use Rattle.um_model.specs.Checkable.{IsCheckable};
+ghost use Rattle.um_multipliers.specs.NormalForm.{HasRisingRows};
 ghost use Rattle.um_model.specs.LeafValue.{Empties};
-ghost use Rattle.um_model.specs.Values.{plain_multipliers};
-ghost use Rattle.um_model.specs.declared.multipliers.Price.{Price};
+ghost use Rattle.um_multipliers.specs.PlainMultipliers.{plain_multipliers};
 ghost use Rattle.umpire.specs.Checkers.{IsChecker, RayOn, LeafOn, ValueOn, EmptyOn, StatedOn, open_bound, LeafValueIs, IsUnusable};
 ghost use Rattle.umpire.specs.FirstAnswers.{IsFirstAnswer, IsLeaf, IsTheLeaf};
 
@@ -14,19 +16,16 @@ use crate::checker::{is_same, no, no_at_root};
 use um_bound::{bound_of, closes, value};
 use um_box::NodeBox;
 use um_deck::Deck;
-use um_model::{Answer, AnswerKind, Leaf, Multipliers, Price, Reason, Verdict, What};
+use um_model::{Answer, AnswerKind, Leaf, Multipliers, Reason, Verdict, What};
 use um_num::Frac;
-
-/// Multipliers are below this size.
-const MULTIPLIER_SIZE: u128 = 1 << 40;
 
 /// The verdict where all that comes before the tree holds.
 pub fn on_tree(deck: &Deck, root: &NodeBox<'_>, answer: &Answer) -> Verdict
     requires checker { IsChecker deck.now root.now }
-    requires checkable { IsCheckable deck.now answer.now }
-    requires first { IsFirstAnswer answer.now }
+    requires checkable { IsCheckable deck.now (plain_answer answer.now) }
+    requires first { IsFirstAnswer (plain_answer answer.now) }
     requires tolerance { answer.now.tolerance ≡ pos 0 }
-    ensures { RayOn deck.now answer.now result }
+    ensures { RayOn deck.now (plain_answer answer.now) result }
 {
     let leaf = the_leaf(answer);
     on_leaf(deck, root, answer, leaf)
@@ -34,9 +33,9 @@ pub fn on_tree(deck: &Deck, root: &NodeBox<'_>, answer: &Answer) -> Verdict
 
 /// What became of the tree's one node.
 fn the_leaf(answer: &Answer) -> &What
-    requires { IsFirstAnswer answer.now }
-    ensures leaf { IsTheLeaf answer.now.tree result.now }
-    ensures kind { IsLeaf result.now }
+    requires { IsFirstAnswer (plain_answer answer.now) }
+    ensures leaf { IsTheLeaf (plain_answer answer.now).tree (plain_what result.now) }
+    ensures kind { IsLeaf (plain_what result.now) }
 {
     match answer.tree.nodes() {
         [node] => &node.what,
@@ -47,11 +46,11 @@ fn the_leaf(answer: &Answer) -> &What
 /// The verdict on the leaf, its box being that of the deck.
 fn on_leaf(deck: &Deck, root: &NodeBox<'_>, answer: &Answer, leaf: &What) -> Verdict
     requires checker { IsChecker deck.now root.now }
-    requires checkable { IsCheckable deck.now answer.now }
+    requires checkable { IsCheckable deck.now (plain_answer answer.now) }
     requires tolerance { answer.now.tolerance ≡ pos 0 }
-    requires leaf { IsTheLeaf answer.now.tree leaf.now }
-    requires kind { IsLeaf leaf.now }
-    ensures { LeafOn deck.now answer.now leaf.now result }
+    requires leaf { IsTheLeaf (plain_answer answer.now).tree (plain_what leaf.now) }
+    requires kind { IsLeaf (plain_what leaf.now) }
+    ensures { LeafOn deck.now (plain_answer answer.now) (plain_what leaf.now) result }
 {
     match leaf {
         What::Bounded(y) => on_bounded(deck, root, answer, y),
@@ -65,9 +64,9 @@ fn on_leaf(deck: &Deck, root: &NodeBox<'_>, answer: &Answer, leaf: &What) -> Ver
 fn on_bounded(deck: &Deck, root: &NodeBox<'_>, answer: &Answer, y: &Multipliers) -> Verdict
     requires checker { IsChecker deck.now root.now }
     requires tolerance { answer.now.tolerance ≡ pos 0 }
-    requires leaf { IsTheLeaf answer.now.tree (What.Bounded y.now) }
+    requires leaf { IsTheLeaf (plain_answer answer.now).tree (Bounded (plain_multipliers y.now)) }
     requires rows { HasRisingRows (length deck.now.rows) y.now.rows.items }
-    ensures { LeafOn deck.now answer.now (What.Bounded y.now) result }
+    ensures { LeafOn deck.now (plain_answer answer.now) (Bounded (plain_multipliers y.now)) result }
 {
     match usable_value(deck, root, y) {
         Ok(value) => on_value(deck, answer, y, value),
@@ -78,9 +77,9 @@ fn on_bounded(deck: &Deck, root: &NodeBox<'_>, answer: &Answer, y: &Multipliers)
 /// The verdict on a bounded leaf that has a value.
 fn on_value(deck: &Deck, answer: &Answer, y: &Multipliers, value: i128) -> Verdict
     requires tolerance { answer.now.tolerance ≡ pos 0 }
-    requires leaf { IsTheLeaf answer.now.tree (What.Bounded y.now) }
-    requires value { LeafValueIs deck.now y.now value }
-    ensures { ValueOn deck.now answer.now y.now result }
+    requires leaf { IsTheLeaf (plain_answer answer.now).tree (Bounded (plain_multipliers y.now)) }
+    requires value { LeafValueIs deck.now (plain_multipliers y.now) value }
+    ensures { ValueOn deck.now (plain_answer answer.now) (plain_multipliers y.now) result }
 {
     if !is_closed(deck, answer, y, value) {
         return no_at_root(Reason::Bound);
@@ -91,8 +90,8 @@ fn on_value(deck: &Deck, answer: &Answer, y: &Multipliers, value: i128) -> Verdi
 /// Whether the multipliers close the box at the answer's objective.
 fn is_closed(deck: &Deck, answer: &Answer, y: &Multipliers, value: i128) -> bool
     requires tolerance { answer.now.tolerance ≡ pos 0 }
-    requires value { LeafValueIs deck.now y.now value }
-    ensures { IsTrue result ↔ BoundedHolds deck.now answer.now (root deck.now) y.now }
+    requires value { LeafValueIs deck.now (plain_multipliers y.now) value }
+    ensures { IsTrue result ↔ BoundedHolds deck.now (plain_answer answer.now) (root deck.now) (plain_multipliers y.now) }
 {
     match (&answer.point, &answer.objective) {
         (Some(_), Some(objective)) => {
@@ -105,9 +104,9 @@ fn is_closed(deck: &Deck, answer: &Answer, y: &Multipliers, value: i128) -> bool
 /// The verdict on an empty leaf.
 fn on_empty(deck: &Deck, root: &NodeBox<'_>, answer: &Answer, y: &Multipliers) -> Verdict
     requires checker { IsChecker deck.now root.now }
-    requires leaf { IsTheLeaf answer.now.tree (What.Empty y.now) }
+    requires leaf { IsTheLeaf (plain_answer answer.now).tree (Empty (plain_multipliers y.now)) }
     requires rows { HasRisingRows (length deck.now.rows) y.now.rows.items }
-    ensures { LeafOn deck.now answer.now (What.Empty y.now) result }
+    ensures { LeafOn deck.now (plain_answer answer.now) (Empty (plain_multipliers y.now)) result }
 {
     match usable_value(deck, root, y) {
         Ok(value) => on_empty_value(deck, answer, y, value),
@@ -117,9 +116,9 @@ fn on_empty(deck: &Deck, root: &NodeBox<'_>, answer: &Answer, y: &Multipliers) -
 
 /// The verdict on an empty leaf that has a value. It adds no bound.
 fn on_empty_value(deck: &Deck, answer: &Answer, y: &Multipliers, value: i128) -> Verdict
-    requires leaf { IsTheLeaf answer.now.tree (What.Empty y.now) }
-    requires value { LeafValueIs deck.now y.now value }
-    ensures { EmptyOn deck.now answer.now y.now result }
+    requires leaf { IsTheLeaf (plain_answer answer.now).tree (Empty (plain_multipliers y.now)) }
+    requires value { LeafValueIs deck.now (plain_multipliers y.now) value }
+    ensures { EmptyOn deck.now (plain_answer answer.now) (plain_multipliers y.now) result }
 {
     if !empties(deck, y, value) {
         return no_at_root(Reason::NotEmpty);
@@ -129,7 +128,7 @@ fn on_empty_value(deck: &Deck, answer: &Answer, y: &Multipliers, value: i128) ->
 
 /// Whether the multipliers show that the box has no feasible point.
 fn empties(deck: &Deck, y: &Multipliers, value: i128) -> bool
-    requires { LeafValueIs deck.now y.now value }
+    requires { LeafValueIs deck.now (plain_multipliers y.now) value }
     ensures { IsTrue result ↔ Empties deck.now (root deck.now) (plain_multipliers y.now) }
 {
     y.y0 == 0 && value > 0
@@ -138,14 +137,14 @@ fn empties(deck: &Deck, y: &Multipliers, value: i128) -> bool
 /// The verdict on an open leaf.
 fn on_open(deck: &Deck, root: &NodeBox<'_>, answer: &Answer, y: &Multipliers) -> Verdict
     requires checker { IsChecker deck.now root.now }
-    requires leaf { IsTheLeaf answer.now.tree (What.OpenLeaf y.now) }
+    requires leaf { IsTheLeaf (plain_answer answer.now).tree (OpenLeaf (plain_multipliers y.now)) }
     requires rows { HasRisingRows (length deck.now.rows) y.now.rows.items }
-    ensures { LeafOn deck.now answer.now (What.OpenLeaf y.now) result }
+    ensures { LeafOn deck.now (plain_answer answer.now) (OpenLeaf (plain_multipliers y.now)) result }
 {
     if !is_stopped(answer.kind) {
         return no_at_root(Reason::OpenLeaf);
     }
-    if !are_multipliers_small(y) {
+    if !y.is_small() {
         return no_at_root(Reason::Wide);
     }
     if !is_objective_in(y) {
@@ -168,9 +167,9 @@ fn is_stopped(kind: AnswerKind) -> bool
 fn open_bound(deck: &Deck, root: &NodeBox<'_>, y: &Multipliers) -> Option<Frac>
     requires checker { IsChecker deck.now root.now }
     requires rows { HasRisingRows (length deck.now.rows) y.now.rows.items }
-    requires small { IsSmallMultipliers y.now }
+    requires small { AreBelow (2 ^ 40) (plain_multipliers y.now) }
     requires positive { pos 0 <ℤ y.now.y0 }
-    ensures { result ≡ open_bound deck.now y.now }
+    ensures { result ≡ open_bound deck.now (plain_multipliers y.now) }
 {
     match value(deck, root, y) {
         Leaf::Value(value) => Some(bound_of(deck, y.y0, value)),
@@ -181,7 +180,7 @@ fn open_bound(deck: &Deck, root: &NodeBox<'_>, y: &Multipliers) -> Option<Frac>
 
 /// The verdict where the leaf holds and has this bound.
 fn on_bound(answer: &Answer, bound: Option<Frac>) -> Verdict
-    ensures { StatedOn answer.now bound result }
+    ensures { StatedOn (plain_answer answer.now) bound result }
 {
     if !is_stated(answer, bound) {
         return no(Reason::BoundWord);
@@ -204,9 +203,9 @@ fn is_stated(answer: &Answer, bound: Option<Frac>) -> bool
 fn usable_value(deck: &Deck, root: &NodeBox<'_>, y: &Multipliers) -> Result<i128, Reason>
     requires checker { IsChecker deck.now root.now }
     requires rows { HasRisingRows (length deck.now.rows) y.now.rows.items }
-    ensures { MatchResult result (LeafValueIs deck.now y.now) (IsUnusable deck.now y.now) }
+    ensures { MatchResult result (LeafValueIs deck.now (plain_multipliers y.now)) (IsUnusable deck.now (plain_multipliers y.now)) }
 {
-    if !are_multipliers_small(y) {
+    if !y.is_small() {
         return Err(Reason::Wide);
     }
     if y.y0 < 0 {
@@ -224,21 +223,4 @@ fn is_objective_in(y: &Multipliers) -> bool
     ensures { IsTrue result ↔ (pos 0 <ℤ y.now.y0) }
 {
     y.y0 >= 1
-}
-
-fn are_multipliers_small(y: &Multipliers) -> bool
-    ensures { IsTrue result ↔ IsSmallMultipliers y.now }
-{
-    y.y0.unsigned_abs() < MULTIPLIER_SIZE && are_prices_small(y.rows.as_slice())
-}
-
-fn are_prices_small(prices: &[Price]) -> bool
-    ensures { IsTrue result ↔ All (λ (p : Price). unsigned_abs p.value < 2 ^ 40) prices.now }
-{
-    for price in prices {
-        if price.value.unsigned_abs() >= MULTIPLIER_SIZE {
-            return false;
-        }
-    }
-    true
 }

@@ -2,7 +2,9 @@
 
 ghost use Rattle.std.specs.Prelude.{◌≡◌, ◌<◌, ◌^◌, None, pos, All, IsTrue, ◌↔◌, unsigned_abs};
 ghost use Rattle.um_model.specs.Accepted.{IsSmallPoint, NumbersSmall, PointFeasible, ObjectiveHolds};
+ghost use Rattle.um_model.specs.AnswerValues.{plain_answer};
 ghost use Rattle.um_model.specs.Checkable.{IsCheckable};
+ghost use Rattle.um_model.specs.Values.{plain_point};
 ghost use Rattle.umpire.specs.Checkers.{IsChecker, NumbersOn, PointOn};
 ghost use Rattle.umpire.specs.FirstAnswers.{IsFirstAnswer};
 
@@ -18,10 +20,10 @@ const POINT_SIZE: u128 = 1 << 36;
 /// The verdict where the tolerance and the fields hold.
 pub fn on_numbers(deck: &Deck, root: &NodeBox<'_>, answer: &Answer) -> Verdict
     requires checker { IsChecker deck.now root.now }
-    requires checkable { IsCheckable deck.now answer.now }
-    requires first { IsFirstAnswer answer.now }
+    requires checkable { IsCheckable deck.now (plain_answer answer.now) }
+    requires first { IsFirstAnswer (plain_answer answer.now) }
     requires tolerance { answer.now.tolerance ≡ pos 0 }
-    ensures { NumbersOn deck.now answer.now result }
+    ensures { NumbersOn deck.now (plain_answer answer.now) result }
 {
     if !are_numbers_small(answer) {
         return no(Reason::Wide);
@@ -32,11 +34,11 @@ pub fn on_numbers(deck: &Deck, root: &NodeBox<'_>, answer: &Answer) -> Verdict
 /// The verdict where the numbers are small, too.
 fn on_point(deck: &Deck, root: &NodeBox<'_>, answer: &Answer) -> Verdict
     requires checker { IsChecker deck.now root.now }
-    requires checkable { IsCheckable deck.now answer.now }
-    requires first { IsFirstAnswer answer.now }
+    requires checkable { IsCheckable deck.now (plain_answer answer.now) }
+    requires first { IsFirstAnswer (plain_answer answer.now) }
     requires tolerance { answer.now.tolerance ≡ pos 0 }
-    requires small { NumbersSmall answer.now }
-    ensures { PointOn deck.now answer.now result }
+    requires small { NumbersSmall (plain_answer answer.now) }
+    ensures { PointOn deck.now (plain_answer answer.now) result }
 {
     if !is_point_feasible(deck, answer) {
         return no(Reason::Infeasible);
@@ -49,7 +51,7 @@ fn on_point(deck: &Deck, root: &NodeBox<'_>, answer: &Answer) -> Verdict
 
 fn are_numbers_small(answer: &Answer) -> bool
     requires { answer.now.ray ≡ None }
-    ensures { IsTrue result ↔ NumbersSmall answer.now }
+    ensures { IsTrue result ↔ NumbersSmall (plain_answer answer.now) }
 {
     match &answer.point {
         Some(point) => is_small(point),
@@ -58,7 +60,7 @@ fn are_numbers_small(answer: &Answer) -> bool
 }
 
 fn is_small(point: &Point) -> bool
-    ensures { IsTrue result ↔ IsSmallPoint point.now }
+    ensures { IsTrue result ↔ IsSmallPoint (plain_point point.now) }
 {
     point.den.unsigned_abs() < POINT_SIZE && are_small(point.parts.as_slice())
 }
@@ -75,9 +77,9 @@ fn are_small(parts: &[i128]) -> bool
 }
 
 fn is_point_feasible(deck: &Deck, answer: &Answer) -> bool
-    requires checkable { IsCheckable deck.now answer.now }
-    requires small { NumbersSmall answer.now }
-    ensures { IsTrue result ↔ PointFeasible deck.now answer.now }
+    requires checkable { IsCheckable deck.now (plain_answer answer.now) }
+    requires small { NumbersSmall (plain_answer answer.now) }
+    ensures { IsTrue result ↔ PointFeasible deck.now (plain_answer answer.now) }
 {
     match &answer.point {
         Some(point) => feasible(deck, point).is_none(),
@@ -87,9 +89,9 @@ fn is_point_feasible(deck: &Deck, answer: &Answer) -> bool
 
 /// Whether an objective that is stated beside a point is the point's.
 fn has_objective(deck: &Deck, answer: &Answer) -> bool
-    requires checkable { IsCheckable deck.now answer.now }
-    requires small { NumbersSmall answer.now }
-    ensures { IsTrue result ↔ ObjectiveHolds deck.now answer.now }
+    requires checkable { IsCheckable deck.now (plain_answer answer.now) }
+    requires small { NumbersSmall (plain_answer answer.now) }
+    ensures { IsTrue result ↔ ObjectiveHolds deck.now (plain_answer answer.now) }
 {
     match (&answer.point, &answer.objective) {
         (Some(point), Some(stated)) => is_same(&objective(deck, point), stated),

@@ -1,8 +1,10 @@
 //! Verdicts on answers without a point, whose leaf values were worked out by hand.
 
 ghost use Rattle.std.specs.Prelude.{◌≡◌, ◌≤◌, ◌∷◌, [], length, IfOk, None};
-ghost use Rattle.um_deck.specs.Decks.{IsPlain};
-ghost use Rattle.um_model.specs.Checkable.{HasRisingRows, IsCheckable, IsCheckableWhat};
+ghost use Rattle.um_deck.specs.Decks.{HasNoSetsOrArcs};
+ghost use Rattle.um_model.specs.Checkable.{IsCheckable, IsCheckableWhat};
+ghost use Rattle.um_multipliers.specs.NormalForm.{HasRisingRows};
+ghost use Rattle.um_model.specs.AnswerValues.{plain_what};
 ghost use Rattle.um_model.specs.Values.{DeckValue};
 ghost use Rattle.umpire.specs.FirstAnswers.{IsFirstAnswer, IsLeaf};
 
@@ -29,8 +31,8 @@ enum Form {
 
 /// The leaf of this form, with a first number and a multiplier of row 0 if it is not 0.
 fn leaf(alloc: Global, form: Form, y0: i128, price: i128) -> Result<What, Memory>
-    ensures kind { IfOk result IsLeaf }
-    ensures rows { (d : DeckValue) → 1 ≤ length d.rows → IfOk result (IsCheckableWhat d) }
+    ensures kind { IfOk result (λ what. IsLeaf (plain_what what)) }
+    ensures rows { (d : DeckValue) → 1 ≤ length d.rows → IfOk result (λ what. IsCheckableWhat d (plain_what what)) }
 {
     let y = multipliers(alloc, y0, price)?;
     Ok(match form {
@@ -70,9 +72,9 @@ fn tree_of(alloc: Global, what: What) -> Result<Tree, Memory>
 
 /// The verdict on an answer that stopped at its count of nodes without a point.
 fn stopped(alloc: Global, deck: &Deck, bound: Option<Frac>, what: What) -> Result<Verdict, Memory>
-    requires plain { IsPlain deck.now }
-    requires leaf { IsLeaf what }
-    requires rows { IsCheckableWhat deck.now what }
+    requires no_sets_or_arcs { HasNoSetsOrArcs deck.now }
+    requires leaf { IsLeaf (plain_what what) }
+    requires rows { IsCheckableWhat deck.now (plain_what what) }
 {
     let answer = Answer {
         kind: AnswerKind::Limit,
@@ -89,9 +91,9 @@ fn stopped(alloc: Global, deck: &Deck, bound: Option<Frac>, what: What) -> Resul
 
 /// The verdict on an answer that says that there is no point.
 fn without_point(alloc: Global, deck: &Deck, what: What) -> Result<Verdict, Memory>
-    requires plain { IsPlain deck.now }
-    requires leaf { IsLeaf what }
-    requires rows { IsCheckableWhat deck.now what }
+    requires no_sets_or_arcs { HasNoSetsOrArcs deck.now }
+    requires leaf { IsLeaf (plain_what what) }
+    requires rows { IsCheckableWhat deck.now (plain_what what) }
 {
     let answer = Answer {
         kind: AnswerKind::Infeasible,
@@ -108,7 +110,7 @@ fn without_point(alloc: Global, deck: &Deck, what: What) -> Result<Verdict, Memo
 
 /// The deck of a text that has a row.
 fn deck_of(alloc: Global, text: &[u8]) -> Result<Deck, Fail>
-    ensures plain { IfOk result IsPlain }
+    ensures no_sets_or_arcs { IfOk result HasNoSetsOrArcs }
     ensures rows { IfOk result (λ deck. 1 ≤ length deck.rows) }
 {
     let deck = um_deck::first(alloc, text)?;
@@ -127,7 +129,7 @@ fn judged(
     price: i64,
     bound: Option<i64>,
 ) -> Result<Verdict, Memory>
-    requires plain { IsPlain deck.now }
+    requires no_sets_or_arcs { HasNoSetsOrArcs deck.now }
     requires rows { 1 ≤ length deck.now.rows }
 {
     let what = leaf(alloc, form, i128::from(y0), i128::from(price))?;

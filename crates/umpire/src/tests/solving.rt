@@ -25,6 +25,34 @@ const NO_POINT_REPORT: &[u8] =
 const WIDE: &[u8] =
     b"NAME WIDE\nROWS\n N C\n L A1\n L B1\n L A2\n L B2\n L A3\n L B3\n L A4\n L B4\n L A5\n L B5\nCOLUMNS\n x1 C -1\n x1 A1 -2147483647\n x1 B1 2147483647\n x2 A1 2147483646\n x2 B1 -2147483646\n x2 A2 -2147483647\n x2 B2 2147483647\n x3 A2 2147483646\n x3 B2 -2147483646\n x3 A3 -2147483647\n x3 B3 2147483647\n x4 A3 2147483646\n x4 B3 -2147483646\n x4 A4 -2147483647\n x4 B4 2147483647\n x5 A4 2147483646\n x5 B4 -2147483646\n x5 A5 -2147483647\n x5 B5 2147483647\n x6 C 1\n x6 A5 2147483646\n x6 B5 -2147483646\nBOUNDS\n LO BND x1 0\n UP BND x1 1\n LO BND x2 0\n UP BND x2 10\n LO BND x3 0\n UP BND x3 10\n LO BND x4 0\n UP BND x4 10\n LO BND x5 0\n UP BND x5 10\n LO BND x6 0\n UP BND x6 10\nENDATA\n";
 
+/// A value times an entry leaves the range at the second step.
+const PRODUCT: &[u8] =
+    b"NAME PRODUCT\nROWS\n N C\n L R1\n L R2\n L R3\nCOLUMNS\n x1 R1 1956827994\n x1 R2 -1527029217\n x1 R3 -1398196178\n x2 R1 -1725066300\n x2 R2 1518021007\nRHS\n RHS R2 1\n RHS R3 1\nBOUNDS\n LO BND x1 -3\n UP BND x1 1\n LO BND x2 -3\n UP BND x2 1\nENDATA\n";
+
+/// Two values over one denominator leave the range at the second step, where they are added.
+const SUM: &[u8] =
+    b"NAME SUM\nROWS\n N C\n L R1\n L R2\n L R3\nCOLUMNS\n x1 R1 -1613694031\n x1 R2 1178562345\n x1 R3 -1711594307\n x2 R3 2130243978\n x3 R1 1674562988\n x3 R2 -1892284764\n x3 R3 -1848525468\nRHS\n RHS R1 1\n RHS R2 -1756045793\n RHS R3 1\nBOUNDS\n LO BND x1 0\n UP BND x1 1000000\n LO BND x2 0\n UP BND x2 1000000\n LO BND x3 0\n UP BND x3 10\nENDATA\n";
+
+/// Decks that overflow, with their reports and trees. The operations and their operands are those of
+/// a model of the board's arithmetic, operation by operation.
+const OVERFLOWS: [(&[u8], &[u8], &[u8]); 3] = [
+    (
+        WIDE,
+        b"Overflow pivot\nobjective none\nbound -1\ntolerance 0.000\nnodes 1\npivots 2\n",
+        b"UMPIRE TREE 1\nDECK WIDE 10 6 0 0\nTOLERANCE 0\nANSWER overflow\nWHY pivot 1 2 mul -2147483647 1237940037555998018794160127875\nOBJECTIVE none\nBOUND -1\nPOINT none\nRAY none\nNODES 1\n1 2 open 1\nEND\n",
+    ),
+    (
+        PRODUCT,
+        b"Overflow pivot\nobjective none\nbound 0\ntolerance 0.000\nnodes 1\npivots 1\n",
+        b"UMPIRE TREE 1\nDECK PRODUCT 3 2 0 0\nTOLERANCE 0\nANSWER overflow\nWHY pivot 1 1 mul 112093120205194286 3183736755102250349500\nOBJECTIVE none\nBOUND 0\nPOINT none\nRAY none\nNODES 1\n1 1 open 1\nEND\n",
+    ),
+    (
+        SUM,
+        b"Overflow pivot\nobjective none\nbound 0\ntolerance 0.000\nnodes 1\npivots 1\n",
+        b"UMPIRE TREE 1\nDECK SUM 3 3 0 0\nTOLERANCE 0\nANSWER overflow\nWHY pivot 1 1 add -36518293852296201041294080442583231000 -165943064719056424178441246222109560000\nOBJECTIVE none\nBOUND 0\nPOINT none\nRAY none\nNODES 1\n1 1 open 1\nEND\n",
+    ),
+];
+
 /// What solving the deck told, and the tree that it wrote.
 #[derive(Drop)]
 struct Solving {
@@ -80,11 +108,14 @@ fn no_point(rt: HostRuntime) -> Result<(), Fail> {
 
 #[test]
 fn overflow(rt: HostRuntime) -> Result<(), Fail> {
-    // The tree of a search that stopped is accepted, too.
-    let wide = solve(rt.alloc(), WIDE)?;
-    assert_eq!(rt; wide.told.outcome.status, Status::Overflow);
-    let checked = call(rt.alloc(), "check deck tree", WIDE, wide.tree.as_slice())?;
-    says(&rt, &checked, Status::Optimal, b"yes\n");
+    for (deck, report, tree) in OVERFLOWS {
+        let wide = solve(rt.alloc(), deck)?;
+        says(&rt, &wide.told, Status::Overflow, report);
+        assert_eq!(rt; wide.tree.as_slice(), tree);
+        // The tree of a search that stopped is accepted, too.
+        let checked = call(rt.alloc(), "check deck tree", deck, tree)?;
+        says(&rt, &checked, Status::Optimal, b"yes\n");
+    }
     Ok(())
 }
 

@@ -1,13 +1,10 @@
 //! The one node of a tree.
 
-ghost use Rattle.std.specs.Prelude.{◌≡◌, ◌<◌, ℕ, codes, length, IsTrue, ◌↔◌, All};
-ghost use Rattle.um_model.specs.Checkable.{HasRisingRows};
-ghost use Rattle.um_model.specs.Values.{plain_multipliers};
-ghost use Rattle.um_model.specs.declared.multipliers.Price.{Price};
-ghost use Rattle.umpire.specs.AnswerValues.{plain_node, plain_what};
+ghost use Rattle.std.specs.Prelude.{◌≡◌, ◌<◌, ℕ, codes, length};
+ghost use Rattle.um_multipliers.specs.PlainMultipliers.{plain_multipliers};
+ghost use Rattle.um_model.specs.AnswerValues.{plain_node, plain_what};
 ghost use Rattle.umpire.specs.LeafReading.{leaf_named, leaf_what, multipliers_at, leaf_at};
 ghost use Rattle.umpire.specs.TreeReading.{Reads, Gives, GivesAs, word_at, solved_at, work_at, solved_from, prices_at, price_value, price_from};
-ghost use Rattle.umpire.specs.Trees.{RowsRise};
 
 use crate::outcome::TreeWord;
 use crate::tree_text::numbers::{is_word, number, read_number, read_signed, sides_of, step_over};
@@ -86,10 +83,11 @@ fn read_multipliers(
         return Err(TreeWord::NotYet);
     }
     let prices = read_prices(alloc, cursor)?;
-    if !have_rising_rows(rows, prices.as_slice()) {
+    let y = Multipliers { y0, rows: prices };
+    if !y.has_rising_rows(rows) {
         return Err(TreeWord::NotYet);
     }
-    Ok(Multipliers { y0, rows: prices })
+    Ok(y)
 }
 
 /// When the leaf was solved, and at what cost; two hyphens where it was not.
@@ -157,33 +155,4 @@ fn price_of(row: i128, value: i128) -> Result<Price, TreeWord>
         return Err(TreeWord::NotYet);
     }
     Ok(Price { row, value })
-}
-
-/// Whether the rows are below this count, and rise.
-fn have_rising_rows(rows: usize, prices: &[Price]) -> bool
-    ensures rising { IsTrue result ↔ HasRisingRows rows prices.now }
-{
-    are_rows_within(rows, prices) && do_rows_rise(prices)
-}
-
-fn are_rows_within(rows: usize, prices: &[Price]) -> bool
-    ensures { IsTrue result ↔ All (λ (p : Price). p.row < rows) prices.now }
-{
-    for price in prices {
-        if price.row as usize >= rows {
-            return false;
-        }
-    }
-    true
-}
-
-fn do_rows_rise(prices: &[Price]) -> bool
-    ensures { IsTrue result ↔ RowsRise prices.now }
-{
-    for i in 1..prices.len() {
-        if prices[i].row <= prices[i - 1].row {
-            return false;
-        }
-    }
-    true
 }

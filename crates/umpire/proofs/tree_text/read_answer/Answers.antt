@@ -1,6 +1,6 @@
 use Rattle.std.proofs.Common.{refl}
 use Rattle.um_model.specs.Values.{plain_point}
-use Rattle.umpire.specs.AnswerValues.{plain_answer}
+use Rattle.um_model.specs.AnswerValues.{plain_answer}
 use Rattle.umpire.specs.FirstReading.{first_tree}
 use Rattle.umpire.proofs.Stepping.{refused_by, given_err, held_tolerance, some_kept}
 use Rattle.umpire.proofs.TextParts.{tolerance_fits}

@@ -3,7 +3,7 @@ use Rattle.std.proofs.lemmas.List.{length-map}
 use Rattle.um_model.specs.Values.{plain_point}
 use Rattle.um_model.specs.declared.point.Point.{Point}
 use Rattle.um_model.specs.declared.tree.Node.{Node}
-use Rattle.umpire.specs.AnswerValues.{plain_node}
+use Rattle.um_model.specs.AnswerValues.{plain_node}
 use Rattle.umpire.specs.FirstReading.{tree_at}
 use Rattle.umpire.proofs.Stepping.{refused_by, given_err, at_end_ok, at_end_no}
 use Rattle.umpire.proofs.tree_text.read_tree.Goals as goal

@@ -1,0 +1,14 @@
+//! The text of a tree: an answer to a deck, with the tree that proves it.
+//!
+//! [`write`] gives the one text that an answer has for a deck, whatever kind it is of and whichever of
+//! its fields are there. What the lines are, by their words, is said in `specs/TreeText.antt`. An answer
+//! is written as it is: whether its fields go together, and whether it is right, a checker says.
+#![tactic(auto)]
+
+mod causes;
+mod nodes;
+mod words;
+mod writer;
+
+pub use words::{cause_word, name_word};
+pub use writer::write;

@@ -1,0 +1,27 @@
+-- What reading a file leaves, whatever its text was: no fault, no file made, and that one file asked for.
+use Rattle.std.proofs.Common.{ℕ, List, inl, inr}
+use Rattle.um_outside.specs.Scenes.{Scene}
+use Rattle.um_outside.specs.WholeFiles.{ReadWhole, ReadTooMuch, ReadGivenUp}
+use Rattle.um_model.specs.Values.{DeckValue}
+use Rattle.um_model.specs.AnswerValues.{AnswerValue}
+use Rattle.umpire.specs.Findings.{HasDeck, HasTree, HasNoDeck, HasNoTree}
+
+whole_left : (name bytes : List ℕ) (s t : Scene) → ReadWhole name bytes s t → ReadGivenUp name s t
+whole_left name bytes s t h = record { well = h.well; put = h.put; holds = h.holds; asked = h.asked }
+
+too_much_left : (name : List ℕ) (most : ℕ) (s t : Scene) → ReadTooMuch name most s t → ReadGivenUp name s t
+too_much_left name most s t h = record { well = h.well; put = h.put; holds = h.holds; asked = h.asked }
+
+pub deck_left : (name : List ℕ) (d : DeckValue) (s t : Scene) → HasDeck name d s t → ReadGivenUp name s t
+deck_left name d s t h = whole_left name h.bytes s t h.read
+
+pub no_deck_left : (name : List ℕ) (s t : Scene) → HasNoDeck name s t → ReadGivenUp name s t
+no_deck_left name s t (inl h) = whole_left name h.bytes s t h.read
+no_deck_left name s t (inr h) = too_much_left name 65536 s t h
+
+pub tree_left : (d : DeckValue) (name : List ℕ) (a : AnswerValue) (s t : Scene) → HasTree d name a s t → ReadGivenUp name s t
+tree_left d name a s t h = whole_left name h.bytes s t h.read
+
+pub no_tree_left : (d : DeckValue) (name : List ℕ) (s t : Scene) → HasNoTree d name s t → ReadGivenUp name s t
+no_tree_left d name s t (inl h) = whole_left name h.bytes s t h.read
+no_tree_left d name s t (inr h) = too_much_left name 65536 s t h

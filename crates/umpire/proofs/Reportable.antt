@@ -1,0 +1,33 @@
+-- The answer to a deck can be reported.
+use Rattle.std.proofs.Common.{◌≡◌, ◌<◌, ◌^◌, ℤ, pos, ◌≤ℤ◌, Option, Some, None, IfSome, sym, subst, inl, inr, arith}
+use Rattle.std.proofs.lemmas.Int.{ints}
+use Rattle.um_model.specs.Values.{DeckValue, PointValue}
+use Rattle.um_model.specs.Accepted.{IsVerdict, NumbersSmall, IsSmallPoint}
+use Rattle.um_model.specs.AnswerValues.{AnswerValue}
+use Rattle.um_model.specs.Checkable.{IsCheckable, IsCheckablePoint}
+use Rattle.um_model.specs.declared.verdict.Verdict.TheVariants.{Yes}
+use Rattle.um_report.specs.Reports.{IsReportable, IsReportablePoint}
+use Rattle.umpire.specs.Findings.{Answers}
+
+-- the numbers of an accepted answer are small
+accepted_small : (d : DeckValue) (a : AnswerValue) → IsVerdict d a Yes → NumbersSmall a
+accepted_small d a (inl (tolerance, inl (fields, inl (small, rest)))) = small
+accepted_small d a (inl (tolerance, inl (fields, inr (large, e)))) = cc
+accepted_small d a (inl (tolerance, inr (other, e))) = cc
+accepted_small d a (inr (other, e)) = cc
+
+point_reportable : (d : DeckValue) (o : Option PointValue) → IfSome o (IsCheckablePoint d) → IfSome o IsSmallPoint → IfSome o (IsReportablePoint d)
+point_reportable d None h small = tt
+point_reportable d (Some p) h small = record {
+  den = h.den;
+  den_in = omega (arith, small.den);
+  parts = h.parts;
+  parts_in = λ k x inside. omega (arith, small.parts k x inside);
+}
+
+pub reportable : (d : DeckValue) (a : AnswerValue) → IsCheckable d a → Answers d a → IsReportable d a
+reportable d a checkable answers = record {
+  tolerance = subst (λ (t : ℤ). pos 0 ≤ℤ t) (sym answers.run.tolerance) (omega (arith, ints));
+  point = point_reportable d a.point checkable.point (accepted_small d a answers.accepted).point;
+  ray = checkable.ray;
+}

@@ -1,0 +1,138 @@
+-- What a call of `solve` does, from what became of its files and of its text.
+use Rattle.std.proofs.Common.{◌≡◌, ◌∙◌, ℕ, List, [], ◌∷◌, ◌++◌, refl, sym, subst, arith, inl, inr}
+use Rattle.std.specs.Prelude.{Option, Some, None}
+use Rattle.um_outside.specs.Scenes.{Scene, Files, to_open, to_create}
+use Rattle.um_outside.specs.Desks.{ChangesOnly}
+use Rattle.um_outside.specs.Sinks.{SinkScene}
+use Rattle.um_outside.specs.WholeFiles.{ReadGivenUp, WroteWhole, WriteFaulted}
+use Rattle.um_model.specs.Values.{DeckValue}
+use Rattle.um_model.specs.AnswerValues.{AnswerValue, plain_answer}
+use Rattle.um_model.specs.declared.answer.Answer.{Answer}
+use Rattle.umpire.specs.Calls.{MakesNoFile}
+use Rattle.umpire.specs.SolveRuns.{SolveNames, SolveRan, SolveDue, SolveFails, SolveRefuses, MakesTree, tree_file, SolveKeeps, SolveFaulted, HasSolved, SolveStopped}
+use Rattle.umpire.specs.Findings.{HasDeck, HasNoDeck, Answers, unread_deck}
+use Rattle.umpire.specs.Refusals.{refusal_text}
+use Rattle.um_report.specs.Reports.{report_text}
+use Rattle.um_treetext.specs.TreeText.{tree_text}
+use Rattle.umpire.specs.Stops.{FileStopped, SaidOrCut, GaveUp}
+use Rattle.umpire.specs.declared.ending.Ending.{Ending}
+use Rattle.umpire.specs.declared.ending.Ending.TheVariants.{Answered, Refused, Faulted, WithoutMemory}
+use Rattle.umpire.specs.declared.outcome.Refusal.{Refusal}
+use Rattle.umpire.specs.declared.outcome.Refusal.TheVariants.{Deck}
+use Rattle.umpire.specs.declared.reading.Stop.{Stop}
+use Rattle.umpire.specs.declared.reading.Stop.TheVariants as stop
+use Rattle.um_outside.proofs.AskedInOrder.{asked_then}
+use Rattle.umpire.proofs.FileReads.{deck_left, no_deck_left}
+use Rattle.umpire.proofs.Sayings.{cut_comes, said_comes}
+
+-- ---- files
+
+only_same : (name : List ℕ) (h : Option Files) → ChangesOnly name h h
+only_same name None = refl
+only_same name (Some files) = λ other apart. refl
+
+-- files that are as they were are so but for one of them
+same_but : (name : List ℕ) (before after : Option Files) → after ≡ before → ChangesOnly name before after
+same_but name before after e = subst (λ (h : Option Files). ChangesOnly name before h) (sym e) (only_same name before)
+
+only_after : (name : List ℕ) (h g k : Option Files) → g ≡ h → ChangesOnly name g k → ChangesOnly name h k
+only_after name h g k e c = subst (λ (x : Option Files). ChangesOnly name x k) e c
+
+-- no file made is none but the one that is asked for
+unmade_but : (file : Option (List ℕ)) (s t : Scene) → MakesNoFile s t → MakesTree file s t
+unmade_but None s t h = h
+unmade_but (Some name) s t h = same_but name s.holds t.holds h.holds
+
+-- the deck's file alone was asked for
+deck_keeps : (names : SolveNames) (s t : Scene) → ReadGivenUp names.deck s t → SolveKeeps names s t
+deck_keeps names s t h = record {
+  well = h.well;
+  files = record { put = h.put; holds = h.holds };
+  asked = record { front = to_open names.deck ∷ []; behind = tree_file names.tree; all = refl; asked = h.asked };
+}
+
+-- the deck was not taken
+pub deck_stopped : (names : SolveNames) (why : Stop) (s t : Scene) → FileStopped names.deck (Deck unread_deck) (HasNoDeck names.deck) why s t → SolveStopped names why s t
+deck_stopped names (stop.Refused r) s t h =
+    let P : Refusal → Type 0 = λ x. SolveRefuses names x s t in
+    (subst P (sym h.0) (refl, h.1), deck_keeps names s t (no_deck_left names.deck s t h.1))
+deck_stopped names stop.Fault s t h = record {
+  fails = inl h;
+  files = unmade_but names.tree s t (record { put = h.put; holds = h.holds });
+  asked = record { front = to_open names.deck ∷ []; behind = tree_file names.tree; all = refl; asked = h.asked };
+}
+deck_stopped names stop.Memory s t h = deck_keeps names s t h
+
+-- the deck was read, and no memory was found for its answer or a text
+pub deck_kept : (names : SolveNames) (d : DeckValue) (s t : Scene) → HasDeck names.deck d s t → SolveKeeps names s t
+deck_kept names d s t h = deck_keeps names s t (deck_left names.deck d s t h)
+
+-- the deck was read and solved, and no tree asked for
+pub solved_alone : (name : List ℕ) (d : DeckValue) (a : Answer) (report : List ℕ) (s t : Scene) → HasDeck name d s t → Answers d (plain_answer a) → report ≡ report_text d (plain_answer a) → HasSolved (record { deck = name; tree = None }) a report s t
+solved_alone name d a report s t deck answers text =
+    let kept = deck_left name d s t deck in
+    record {
+      solves = record { between = t; deck = d; deck_read = deck; answers = answers; tree = refl; report = text };
+      well = kept.well;
+      files = record { put = kept.put; holds = kept.holds };
+      asked = record { front = to_open name ∷ []; behind = []; all = refl; asked = kept.asked };
+    }
+
+-- it was, and its tree written
+pub solved_with_tree : (name file : List ℕ) (d : DeckValue) (a : Answer) (report bytes : List ℕ) (s m t : Scene) → HasDeck name d s m → Answers d (plain_answer a) → report ≡ report_text d (plain_answer a) → bytes ≡ tree_text d (plain_answer a)
+    → WroteWhole file bytes m t → HasSolved (record { deck = name; tree = Some file }) a report s t
+solved_with_tree name file d a report bytes s m t deck answers text tree wrote =
+    let kept = deck_left name d s m deck in
+    record {
+      solves = record { between = m; deck = d; deck_read = deck; answers = answers; tree = subst (λ (x : List ℕ). WroteWhole file x m t) tree wrote; report = text };
+      well = record { faults = omega (arith, kept.well.faults, wrote.well.faults); stopped = wrote.well.stopped ∙ kept.well.stopped };
+      files = only_after file s.holds m.holds t.holds kept.holds wrote.holds;
+      asked = record { front = to_open name ∷ (to_create file ∷ []); behind = []; all = refl; asked = asked_then (to_open name ∷ []) (to_create file ∷ []) s.asked m.asked t.asked kept.asked wrote.asked };
+    }
+
+-- the tree could not be written
+pub unwritten_tree : (name file : List ℕ) (d : DeckValue) (a : AnswerValue) (s m t : Scene) → HasDeck name d s m → Answers d a → WriteFaulted file m t → SolveFaulted (record { deck = name; tree = Some file }) s t
+unwritten_tree name file d a s m t deck answers failed =
+    let kept = deck_left name d s m deck in
+    record {
+      fails = inr (record { between = m; deck = d; answer = a; file = file; named = refl; deck_read = deck; answers = answers; fault = failed });
+      files = only_after file s.holds m.holds t.holds kept.holds failed.holds;
+      asked = record { front = to_open name ∷ (to_create file ∷ []); behind = []; all = refl; asked = asked_then (to_open name ∷ []) (to_create file ∷ []) s.asked m.asked t.asked kept.asked failed.asked };
+    }
+
+-- the same, where the file is one that was asked for
+pub solved_to : (name file : List ℕ) (tree : Option (List ℕ)) (d : DeckValue) (a : Answer) (report bytes : List ℕ) (s m t : Scene) → tree ≡ Some file → HasDeck name d s m → Answers d (plain_answer a) → report ≡ report_text d (plain_answer a)
+    → bytes ≡ tree_text d (plain_answer a) → WroteWhole file bytes m t → HasSolved (record { deck = name; tree = tree }) a report s t
+solved_to name file tree d a report bytes s m t is deck answers text written wrote =
+    subst (λ (o : Option (List ℕ)). HasSolved (record { deck = name; tree = o }) a report s t) (sym is) (solved_with_tree name file d a report bytes s m t deck answers text written wrote)
+
+pub unwritten_to : (name file : List ℕ) (tree : Option (List ℕ)) (d : DeckValue) (a : AnswerValue) (s m t : Scene) → tree ≡ Some file → HasDeck name d s m → Answers d a → WriteFaulted file m t → SolveFaulted (record { deck = name; tree = tree }) s t
+unwritten_to name file tree d a s m t is deck answers failed =
+    subst (λ (o : Option (List ℕ)). SolveFaulted (record { deck = name; tree = o }) s t) (sym is) (unwritten_tree name file d a s m t deck answers failed)
+
+-- ---- the call
+
+-- the report was said
+module _ (names : SolveNames) (before after : Scene) (s t : SinkScene) where
+  pub answer_ran : (a : Answer) (report : List ℕ) (ending : Ending) → HasSolved names a report before after → SaidOrCut report (Answered a) ending s t → SolveRan names ending before after s t
+  answer_ran a report ending h said = record {
+    comes = cut_comes (SolveDue names before after) (SolveFails names before after) before after s t (Answered a) ending report tt h.solves h.well said;
+    files = h.files;
+    alone = λ e. absurd (apart said e);
+    asked = h.asked;
+  }
+    where
+      apart : SaidOrCut report (Answered a) ending s t → ending ≡ WithoutMemory → ⊥
+      apart (inl (same, took)) e = (let f : Answered a ≡ WithoutMemory = sym same ∙ e in cc)
+      apart (inr (same, cut)) e = (let f : Faulted ≡ WithoutMemory = sym same ∙ e in cc)
+
+  -- there is no answer
+  pub solve_gave_up : (why : Stop) (ending : Ending) → SolveStopped names why before after → GaveUp why ending s t → SolveRan names ending before after s t
+  solve_gave_up (stop.Refused r) ending h said = record {
+    comes = said_comes (SolveDue names before after) (SolveFails names before after) before after s t (Refused r) ending (refusal_text r) tt (refl, h.0) h.1.well said;
+    files = unmade_but names.tree before after h.1.files;
+    alone = λ e. h.1.files;
+    asked = h.1.asked;
+  }
+  solve_gave_up stop.Fault ending h said = subst (λ (x : Ending). SolveRan names x before after s t) (sym said.0) (record { comes = inl (h.fails, said.1); files = h.files; alone = λ e. absurd (cc); asked = h.asked })
+  solve_gave_up stop.Memory ending h said = subst (λ (x : Ending). SolveRan names x before after s t) (sym said.0) (record { comes = (h.well, said.1); files = unmade_but names.tree before after h.files; alone = λ e. h.files; asked = h.asked })

@@ -1,6 +1,0 @@
-use Rattle.std.proofs.Common.{ℕ, ◌<◌, ◌^◌, unsigned_abs, get_or}
-use Rattle.um_model.specs.declared.multipliers.Price.{Price}
-use Rattle.umpire.proofs.checker.leaf.are_prices_small.Given as goal
-
-abbrev pub invariant-loop-price : goal.invariant-loop-price
-invariant-loop-price l = (k : ℕ) (d : Price) → k < l.price-index → unsigned_abs (get_or l.prices k d).value < 2 ^ 40

@@ -1,6 +1,0 @@
-use Rattle.std.proofs.Common.{ℕ, ◌<◌, get_or}
-use Rattle.um_model.specs.declared.multipliers.Price.{Price}
-use Rattle.umpire.proofs.tree_text.leaf.are_rows_within.Given as goal
-
-abbrev pub invariant-loop-price : goal.invariant-loop-price
-invariant-loop-price l = (k : ℕ) (d : Price) → k < l.price-index → (get_or l.prices k d).row < l.fn.rows

@@ -1,6 +1,0 @@
-use Rattle.std.proofs.Common.{ℕ, ◌<◌, ◌+◌, get_or}
-use Rattle.um_model.specs.declared.multipliers.Price.{Price}
-use Rattle.umpire.proofs.tree_text.leaf.do_rows_rise.Given as goal
-
-abbrev pub invariant-loop-i : goal.invariant-loop-i
-invariant-loop-i l = (k : ℕ) (d : Price) → k + 1 < l.i → (get_or l.prices k d).row < (get_or l.prices (k + 1) d).row

@@ -1,0 +1,115 @@
+-- What the command `check DECK TREE` does: it says whether the tree proves its answer to the deck.
+use Rattle.std.specs.Prelude.{◌≡◌, ◌≢◌, ℕ, ◌⊎◌, ◌&&◌, List, [], ◌∷◌, Option, Some, None, if◌then◌else◌, codes, bytes_eq}
+use Rattle.um_outside.specs.Scenes.{Scene, Asked, to_open}
+use Rattle.um_outside.specs.Desks.{WentWell}
+use Rattle.um_outside.specs.Sinks.{SinkScene}
+use Rattle.um_outside.specs.WholeFiles.{ReadFaulted}
+use Rattle.um_model.specs.Values.{DeckValue}
+use Rattle.um_model.specs.AnswerValues.{AnswerValue}
+use Rattle.um_model.specs.declared.verdict.Verdict.{Verdict}
+use Rattle.umpire.specs.Calls.{ComesTo, MakesNoFile, AsksInOrder}
+use Rattle.umpire.specs.Findings.{HasDeck, HasTree, HasNoDeck, HasNoTree, IsFinding, unread_deck, unread_tree}
+use Rattle.umpire.specs.Refusals.{refusal_text}
+use Rattle.um_report.specs.Verdicts.{verdict_text}
+use Rattle.umpire.specs.Words.{is_file_name}
+use Rattle.umpire.specs.declared.ending.Ending.{Ending}
+use Rattle.umpire.specs.declared.ending.Ending.TheVariants.{Judged, Refused}
+use Rattle.umpire.specs.declared.outcome.Refusal.{Refusal}
+use Rattle.umpire.specs.declared.outcome.Refusal.TheVariants.{Deck, Tree}
+use Rattle.umpire.specs.declared.commands.check.CheckFiles.{CheckFiles}
+use Rattle.umpire.specs.declared.reading.Stop.{Stop}
+use Rattle.umpire.specs.declared.reading.Stop.TheVariants as stop
+
+-- ---- the words
+
+-- the names of the two files
+pub record CheckNames : Type 0 where
+  pub deck : List ℕ
+  pub tree : List ℕ
+
+-- the files that the words `check DECK TREE` name; other words are not this command
+abbrev pub check_of : List (List ℕ) → Option CheckNames
+check_of (command ∷ deck ∷ tree ∷ []) = if bytes_eq command (codes "check") && is_file_name deck && is_file_name tree then Some (record { deck = deck; tree = tree }) else None
+check_of words = None
+
+-- the files that are asked for: the deck, then the tree
+abbrev pub check_files : CheckNames → List Asked
+check_files names = to_open names.deck ∷ to_open names.tree ∷ []
+
+-- ---- what is due
+
+-- the deck was read from its file, then the tree from its own, and this is the verdict on them
+pub record Judges (names : CheckNames) (v : Verdict) (s t : Scene) : Type 0 where
+  pub between : Scene
+  pub deck : DeckValue
+  pub answer : AnswerValue
+  pub deck_read : HasDeck names.deck deck s between
+  pub tree_read : HasTree deck names.tree answer between t
+  pub finding : IsFinding deck answer v
+
+-- the deck was read from its file, and then the tree's file, which is not taken
+pub record RefusesTree (names : CheckNames) (s t : Scene) : Type 0 where
+  pub between : Scene
+  pub deck : DeckValue
+  pub deck_read : HasDeck names.deck deck s between
+  pub tree : HasNoTree deck names.tree between t
+
+-- what was read before this refusal
+abbrev pub CheckRefuses : CheckNames → Refusal → Scene → Scene → Type 0
+CheckRefuses names (Deck fault) s t = (fault ≡ unread_deck) × HasNoDeck names.deck s t
+CheckRefuses names (Tree fault) s t = (fault ≡ unread_tree) × RefusesTree names s t
+CheckRefuses names other s t = ⊥
+
+-- the line of the verdict on the files, or that of a refusal
+abbrev pub CheckDue : CheckNames → Scene → Scene → Ending → List ℕ → Type 0
+CheckDue names s t (Judged v) text = (text ≡ verdict_text v) × Judges names v s t
+CheckDue names s t (Refused r) text = (text ≡ refusal_text r) × CheckRefuses names r s t
+CheckDue names s t other text = ⊥
+
+-- ---- how the desk fails
+
+-- at the tree, when the deck had been read
+pub record FailsAtTree (names : CheckNames) (s t : Scene) : Type 0 where
+  pub between : Scene
+  pub deck : DeckValue
+  pub deck_read : HasDeck names.deck deck s between
+  pub fault : ReadFaulted names.tree between t
+
+-- at the deck, and then the tree is not asked for, or at the tree
+abbrev pub CheckFails : CheckNames → Scene → Scene → Type 0
+CheckFails names s t = ReadFaulted names.deck s t ⊎ FailsAtTree names s t
+
+-- ---- the whole command
+
+pub record CheckRan (names : CheckNames) (ending : Ending) (before after : Scene) (s t : SinkScene) : Type 0 where
+  pub comes : ComesTo (CheckDue names before after) (CheckFails names before after) ending before after s t
+  pub files : MakesNoFile before after
+  pub asked : AsksInOrder (check_files names) before after
+
+-- ---- the parts of the command, for private functions
+
+-- the desk has not failed, no file was made, and a front of these was asked for
+pub record CheckKeeps (names : CheckNames) (s t : Scene) : Type 0 where
+  pub well : WentWell s t
+  pub files : MakesNoFile s t
+  pub asked : AsksInOrder (check_files names) s t
+
+pub record CheckFaulted (names : CheckNames) (s t : Scene) : Type 0 where
+  pub fails : CheckFails names s t
+  pub files : MakesNoFile s t
+  pub asked : AsksInOrder (check_files names) s t
+
+-- both files were read and judged
+pub record HasJudged (names : CheckNames) (v : Verdict) (s t : Scene) : Type 0 where
+  pub judges : Judges names v s t
+  pub keeps : CheckKeeps names s t
+
+-- why there is no verdict
+abbrev pub CheckStopped : CheckNames → Stop → Scene → Scene → Type 0
+CheckStopped names (stop.Refused r) s t = CheckRefuses names r s t × CheckKeeps names s t
+CheckStopped names stop.Fault s t = CheckFaulted names s t
+CheckStopped names stop.Memory s t = CheckKeeps names s t
+
+-- the names that the program holds
+abbrev pub names_of : CheckFiles → CheckNames
+names_of files = record { deck = files.deck.now; tree = files.tree.now }

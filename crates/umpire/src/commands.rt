@@ -1,0 +1,4 @@
+//! The commands, one file each: the words of the command, what it does, and how it ends.
+
+pub(crate) mod check;
+pub(crate) mod solve;

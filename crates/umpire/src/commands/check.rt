@@ -1,0 +1,87 @@
+//! `check DECK TREE`: whether a tree proves its answer to a deck.
+
+ghost use Rattle.std.specs.Prelude.{◌≡◌, false, map, option_map, string_bytes, IfOk, IfErr};
+ghost use Rattle.um_deck.specs.Decks.{HasNoSetsOrArcs};
+ghost use Rattle.um_model.specs.AnswerValues.{plain_answer};
+ghost use Rattle.um_model.specs.Checkable.{IsCheckable};
+ghost use Rattle.um_outside.specs.Scenes.{Idle};
+ghost use Rattle.umpire.specs.CheckRuns.{check_of, names_of, CheckRan, CheckStopped, HasJudged};
+ghost use Rattle.umpire.specs.Findings.{IsFinding};
+ghost use Rattle.umpire.specs.FirstAnswers.{IsFirstAnswer};
+
+use crate::checker::Checker;
+use crate::ending::Ending;
+use crate::reading::{Stop, read_deck, read_tree};
+use crate::saying::{give_up, tell};
+use crate::words::is_file_name;
+use std::alloc::Global;
+use um_deck::Deck;
+use um_model::{Answer, Verdict};
+use um_outside::{Desk, Sink};
+
+/// The files of the command.
+#[derive(Clone, Copy, PartialEq, Eq, Debug)]
+pub struct CheckFiles<'w> {
+    pub deck: &'w str,
+    pub tree: &'w str,
+}
+
+/// The files that the words name, where they are this command.
+pub fn files_of(words: &[String]) -> Option<CheckFiles<'_>>
+    ensures { option_map names_of result ≡ check_of (map string_bytes words.now) }
+{
+    let [command, deck, tree] = words else {
+        return None;
+    };
+    let (deck, tree) = (deck.as_str(), tree.as_str());
+    if command.as_str() == "check" && is_file_name(deck) && is_file_name(tree) {
+        Some(CheckFiles { deck, tree })
+    } else {
+        None
+    }
+}
+
+/// Reads a deck and a tree, checks the tree, and writes the verdict.
+pub fn check<D: Desk, O: Sink>(
+    alloc: Global,
+    files: &CheckFiles<'_>,
+    desk: &mut D,
+    out: &mut O,
+) -> Ending
+    requires idle { (D.scene desk.old).mode ≡ Idle }
+    requires going { (D.scene desk.old).stopped ≡ false }
+    requires out_going { (O.told out.old).stopped ≡ false }
+    ensures { CheckRan (names_of files.now) result (D.scene desk.old) (D.scene desk.new) (O.told out.old) (O.told out.new) }
+{
+    match judge(alloc, desk, files) {
+        Ok(verdict) => tell(alloc, out, verdict),
+        Err(stop) => give_up(alloc, out, stop),
+    }
+}
+
+/// Reads a deck and then a tree, and checks the tree.
+fn judge<D: Desk>(alloc: Global, desk: &mut D, files: &CheckFiles<'_>) -> Result<Verdict, Stop>
+    requires idle { (D.scene desk.old).mode ≡ Idle }
+    requires going { (D.scene desk.old).stopped ≡ false }
+    ensures ok { IfOk result (λ verdict. HasJudged (names_of files.now) verdict (D.scene desk.old) (D.scene desk.new)) }
+    ensures err { IfErr result (λ stop. CheckStopped (names_of files.now) stop (D.scene desk.old) (D.scene desk.new)) }
+{
+    let deck = read_deck(alloc, desk, files.deck)?;
+    match read_tree(alloc, desk, &deck, files.tree) {
+        Ok(answer) => verdict_on(alloc, &deck, &answer),
+        Err(stop) => Err(stop),
+    }
+}
+
+/// The verdict on an answer to a deck. The error is want of memory.
+fn verdict_on(alloc: Global, deck: &Deck, answer: &Answer) -> Result<Verdict, Stop>
+    requires straight { HasNoSetsOrArcs deck.now }
+    requires checkable { IsCheckable deck.now (plain_answer answer.now) }
+    requires first { IsFirstAnswer (plain_answer answer.now) }
+    ensures ok { IfOk result (IsFinding deck.now (plain_answer answer.now)) }
+    ensures err { IfErr result (λ stop. stop ≡ Stop.Memory) }
+{
+    deck.known();
+    let mut checker = Checker::new(alloc, deck)?;
+    Ok(checker.verdict(answer))
+}

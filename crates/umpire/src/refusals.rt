@@ -1,0 +1,52 @@
+//! The lines of refusals.
+
+ghost use Rattle.std.specs.Prelude.{◌≡◌, IfOk, string_bytes};
+ghost use Rattle.umpire.specs.Refusals.{refusal_text, deck_word, tree_word};
+
+use crate::outcome::{ReadFault, Refusal, TreeFault, TreeWord, WordFault};
+use std::alloc::{AllocError, Global};
+use um_deck::Fault;
+use um_num::{List, Memory};
+
+/// The line of a refusal: what was refused, why, and for a file at which line.
+pub fn refusal_line(alloc: Global, refusal: &Refusal) -> Result<List<u8>, Memory>
+    ensures { IfOk result (λ line. line.items ≡ refusal_text refusal.now) }
+{
+    let line = refusal_string(alloc, refusal)?;
+    List::from_slice(alloc, line.as_bytes())
+}
+
+fn refusal_string(alloc: Global, refusal: &Refusal) -> Result<String, AllocError>
+    ensures { IfOk result (λ line. string_bytes line ≡ refusal_text refusal.now) }
+{
+    match refusal {
+        Refusal::Words(WordFault::Line) => format!(in alloc; "words refused: Line\n"),
+        Refusal::LowTolerance { least: _ } => { format!(in alloc; "words refused: LowTolerance\n") }
+        Refusal::Deck(ReadFault { line, fault }) => {
+            let word = deck_word(*fault);
+            format!(in alloc; "deck refused: {word} at line {line}\n")
+        }
+        Refusal::Tree(TreeFault { line, fault }) => {
+            let word = tree_word(*fault);
+            format!(in alloc; "tree refused: {word} at line {line}\n")
+        }
+    }
+}
+
+fn deck_word(fault: Fault) -> &'static str
+    ensures { result.now ≡ deck_word fault }
+{
+    match fault {
+        Fault::NotYet => "NotYet",
+        Fault::Memory => "Memory",
+    }
+}
+
+fn tree_word(fault: TreeWord) -> &'static str
+    ensures { result.now ≡ tree_word fault }
+{
+    match fault {
+        TreeWord::NotYet => "NotYet",
+        TreeWord::Memory => "Memory",
+    }
+}
