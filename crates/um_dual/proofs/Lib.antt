@@ -11,3 +11,4 @@ pub mod Signs
 pub mod Sizes
 pub mod Traces
 pub mod Turns
+mod EntrySigns

@@ -1,12 +1,16 @@
 //! The column that enters.
 
-ghost use Rattle.std.specs.Prelude.{◌≡◌, ◌<◌, ◌+◌, ◌↔◌, IsTrue, IfOk, IfErr};
+ghost use Rattle.std.specs.Prelude.{◌≡◌, ◌≢◌, ◌<◌, ◌+◌, ◌<ℤ◌, ◌↔◌, ℤ, pos, IsTrue, IfOk, IfErr};
+ghost use Rattle.std.specs.Ordering.{int_cmp};
+ghost use Rattle.um_laws.specs.Rational.{Rational, whole};
+ghost use Rattle.um_lp.specs.DualSteps.{Helps, Harms, CanMove};
 ghost use Rattle.um_lp.specs.Refusals.{IsRefusedAt};
 ghost use Rattle.um_lp.specs.States.{width};
 ghost use Rattle.um_dual.specs.Choices.{IsRatio, IsEarlier, EntersBelow, IsEntering};
 
 use crate::numbers::size;
-use um_lp::{At, Board, Wide, can_move};
+use std::cmp::Ordering;
+use um_lp::{At, Board, Wide};
 use um_num::Frac;
 
 /// A column that may enter, with the size of its reduced cost over its entry.
@@ -16,13 +20,68 @@ pub struct EnteringColumn {
     pub ratio: Frac,
 }
 
-/// A basic column may not enter, and its entry need not be read.
-fn is_basic(at: At) -> bool
-    ensures { IsTrue result ↔ (at ≡ At.Basic) }
+/// Whether a number of this sign is above 0.
+fn is_above(sign: Ordering) -> bool
+    ensures { (num : ℤ) → sign ≡ int_cmp num (pos 0) → IsTrue result ↔ pos 0 <ℤ num }
+{
+    match sign {
+        Ordering::Greater => true,
+        Ordering::Less | Ordering::Equal => false,
+    }
+}
+
+/// Whether a number of this sign is below 0.
+fn is_below(sign: Ordering) -> bool
+    ensures { (num : ℤ) → sign ≡ int_cmp num (pos 0) → IsTrue result ↔ num <ℤ pos 0 }
+{
+    match sign {
+        Ordering::Less => true,
+        Ordering::Greater | Ordering::Equal => false,
+    }
+}
+
+/// Whether a column comes to the help of one that leaves to this end where it rises, by the sign of its
+/// entry.
+fn helps(to: At, sign: Ordering) -> bool
+    ensures { (entry : Rational) → sign ≡ int_cmp entry.num (pos 0) → IsTrue result ↔ Helps to entry }
+{
+    match to {
+        At::Lower => is_above(sign),
+        At::Upper => is_below(sign),
+        At::Zero | At::Basic => false,
+    }
+}
+
+/// Whether it does where it falls.
+fn harms(to: At, sign: Ordering) -> bool
+    ensures { (entry : Rational) → sign ≡ int_cmp entry.num (pos 0) → IsTrue result ↔ Harms to entry }
+{
+    match to {
+        At::Lower => is_below(sign),
+        At::Upper => is_above(sign),
+        At::Zero | At::Basic => false,
+    }
+}
+
+/// Whether a number of this sign is not 0.
+fn is_not_zero(sign: Ordering) -> bool
+    ensures { (entry : Rational) → sign ≡ int_cmp entry.num (pos 0) → IsTrue result ↔ (entry ≢ whole (pos 0)) }
+{
+    match sign {
+        Ordering::Less | Ordering::Greater => true,
+        Ordering::Equal => false,
+    }
+}
+
+/// Whether a column that stands at `at` can move the way in which it helps.
+fn can_move(at: At, to: At, sign: Ordering) -> bool
+    ensures { (entry : Rational) → sign ≡ int_cmp entry.num (pos 0) → IsTrue result ↔ CanMove at to entry }
 {
     match at {
-        At::Basic => true,
-        At::Lower | At::Upper | At::Zero => false,
+        At::Lower => helps(to, sign),
+        At::Upper => harms(to, sign),
+        At::Zero => is_not_zero(sign),
+        At::Basic => false,
     }
 }
 
@@ -33,14 +92,12 @@ fn ratio_of<B: Board>(board: &B, row: u32, to: At, column: u32) -> Result<Option
     ensures ratio { IfOk result (IsRatio (B.state board.now) row to column) }
     ensures wide { IfErr result (IsRefusedAt (B.state board.now)) }
 {
-    let at = board.at(column);
-    if is_basic(at) {
+    // A column that may not enter is seen without its fractions, which is most of them.
+    let sign = board.sign(row, column)?;
+    if !can_move(board.at(column), to, sign) {
         return Ok(None);
     }
     let entry = board.entry(row, column)?;
-    if !can_move(at, to, &entry) {
-        return Ok(None);
-    }
     let cost = board.cost(column)?;
     let quotient = cost.div(&entry)?;
     Ok(Some(size(&quotient)))

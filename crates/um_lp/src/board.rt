@@ -4,10 +4,12 @@ ghost use Rattle.std.specs.Prelude.{◌≡◌, ◌≢◌, ◌<◌, pos, Option, 
 ghost use Rattle.um_laws.specs.Rational.{whole};
 ghost use Rattle.um_num.specs.Numbers.{IsInRange};
 ghost use Rattle.std.specs.Option.{ForSome};
+ghost use Rattle.std.specs.Ordering.{int_cmp};
 ghost use Rattle.um_lp.specs.Boards.{IsBoard, IsPivot, IsRebox, IsFinite, AreOrdered, IsWantedEndFinite};
 ghost use Rattle.um_lp.specs.Refusals.{IsRefusedAt, IsRefusedAct};
 ghost use Rattle.um_lp.specs.States.{State, width, at_of, basic_of, ends_of, entry_of, reduced_of, value_of};
 
+use std::cmp::Ordering;
 use um_num::{Frac, Wide};
 
 /// Where a column of a board stands.
@@ -73,6 +75,13 @@ pub trait Board {
         requires row_in { row < (state self.now).frame.rows }
         requires column_in { column < width (state self.now).frame }
         ensures value { IfOk result (λ entry. entry ≡ entry_of (state self.now) row column) }
+        ensures wide { IfErr result (IsRefusedAt (state self.now)) };
+
+    /// Whether that is above, at or below 0. It costs less than the entry itself.
+    fn sign(&self, row: u32, column: u32) -> Result<Ordering, Wide>
+        requires row_in { row < (state self.now).frame.rows }
+        requires column_in { column < width (state self.now).frame }
+        ensures value { IfOk result (λ sign. sign ≡ int_cmp (entry_of (state self.now) row column).num (pos 0)) }
         ensures wide { IfErr result (IsRefusedAt (state self.now)) };
 
     /// The reduced cost of a column.

@@ -3,7 +3,7 @@
 ghost use Rattle.std.specs.Prelude.{◌↔◌, IsTrue};
 ghost use Rattle.std.specs.Option.{ForSome};
 ghost use Rattle.um_num.specs.Numbers.{IsInRange};
-ghost use Rattle.um_lp.specs.DualSteps.{Helps, Harms, CanMove, IsBelowEnd, IsAboveEnd};
+ghost use Rattle.um_lp.specs.DualSteps.{Helps, Harms, IsBelowEnd, IsAboveEnd};
 
 use crate::board::At;
 use um_num::Frac;
@@ -28,18 +28,6 @@ pub fn harms(to: At, entry: &Frac) -> bool
         At::Lower => entry.num() < 0,
         At::Upper => entry.num() > 0,
         At::Zero | At::Basic => false,
-    }
-}
-
-/// Whether a column that stands at `at` can move the way in which it helps one that leaves to `to`.
-pub fn can_move(at: At, to: At, entry: &Frac) -> bool
-    ensures { IsTrue result ↔ CanMove at to entry.now }
-{
-    match at {
-        At::Lower => helps(to, entry),
-        At::Upper => harms(to, entry),
-        At::Zero => !entry.is_zero(),
-        At::Basic => false,
     }
 }
 

@@ -2,9 +2,7 @@ use Rattle.std.proofs.Common.{Result, IfErr, rules}
 use Rattle.um_num.specs.declared.exact.Wide.{Wide}
 use Rattle.um_lp.specs.Refusals.{IsRefusedAt}
 use Rattle.std.proofs.Common.{sym, subst, ◌∙◌}
-use Rattle.um_lp.specs.DualSteps.{CanMove}
 use Rattle.um_lp.specs.States.{entry_of}
-use Rattle.um_lp.specs.declared.board.At.{At}
 use Rattle.um_laws.specs.Rational.{Rational}
 use Rattle.um_num.specs.Sizes.{IsSmall}
 use Rattle.um_lp.proofs.RefusedReads.{refused_at, quotient_fits, entry_small, cost_small}
@@ -12,7 +10,7 @@ use Rattle.um_dual.proofs.Signs.{can_move_not_zero}
 use Rattle.um_dual.proofs.entering_column.ratio_of.Goals as goal
 
 pub div-requires : goal.div-requires
-div-requires g c = can_move_not_zero c.at-at.result c.args.to c.in_ok-entry.entry (c.can_move.ensures.0 c.if-not-can_move.false)
+div-requires g c = can_move_not_zero c.at.result c.args.to c.in_ok-entry.entry ((c.can_move.ensures c.in_ok-entry.entry (c.in_ok-sign.ensures.value ∙ ap (λ (x : Rational). int_cmp x.num (pos 0)) (sym c.in_ok-entry.ensures.value))).0 c.if-not-can_move.false)
 
 pub returns-in_err-quotient-clause-wide : goal.returns-in_err-quotient-clause-wide
 returns-in_err-quotient-clause-wide g c =
@@ -25,7 +23,8 @@ returns-in_err-quotient-clause-wide g c =
     let here : IsRefusedAt s c.in_err-quotient.field-0.0 = subst (λ (r : Result Rational Wide). IfErr r (IsRefusedAt s)) c.in_err-quotient.was refused in
     search (rules, here)
 
-pub returns-then-is_basic-clause-ratio : goal.returns-then-is_basic-clause-ratio
-returns-then-is_basic-clause-ratio g c may =
+pub returns-then-not-can_move-clause-ratio : goal.returns-then-not-can_move-clause-ratio
+returns-then-not-can_move-clause-ratio g c may =
     let s = g.B.Board.state c.args.board.now in
-    subst (λ (a : At). CanMove a c.args.to (entry_of s c.args.row c.args.column)) (sym c.at-at.ensures ∙ c.is_basic.ensures.0 c.if-is_basic.true) may
+    let can = (c.can_move.ensures (entry_of s c.args.row c.args.column) c.in_ok-sign.ensures.value).1 may in
+    cc
