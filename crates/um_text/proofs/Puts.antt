@@ -1,7 +1,7 @@
 -- What was put one behind the other: bytes, words and lines.
 use Rattle.std.proofs.Common.{◌≡◌, ℕ, zero, suc, ◌+◌, ◌<◌, List, [], ◌∷◌, ◌++◌, length, map, take, get_or, Result, Ok, Err, refl, sym, ap, ◌∙◌, arith, append_assoc, append-nil}
-use Rattle.std.specs.Prelude.{OnOk}
-use Rattle.um_text.specs.Texts.{behind_blanks, line_rest, line_text, lines_text}
+use Rattle.std.specs.Prelude.{OnOk, OnErr}
+use Rattle.um_text.specs.Texts.{GoesOn, behind_blanks, line_rest, line_text, lines_text}
 
 -- ---- one put after the other
 
@@ -14,6 +14,22 @@ next_put t u v a b c e f g = joined t u v a b e f ∙ ap (λ l. t ++ l) (sym g)
 pub on_ok : {T E P Q : Type 0} (r : Result T E) → OnOk r P → (P → Q) → OnOk r Q
 on_ok (Ok x) h f = f h
 on_ok (Err e) h f = tt
+
+-- ---- what stood before is still the front
+
+pub stays : {t : List ℕ} → GoesOn t t
+stays {t} = record { more = []; behind = sym (append-nil t) }
+
+pub put_behind : {t u a : List ℕ} → u ≡ t ++ a → GoesOn t u
+put_behind {t} {u} {a} e = record { more = a; behind = e }
+
+pub goes_on_further : {t u v : List ℕ} → GoesOn t u → GoesOn u v → GoesOn t v
+goes_on_further {t} {u} {v} g h = record { more = g.more ++ h.more; behind = joined t u v g.more h.more g.behind h.behind }
+
+-- what holds anyhow holds after a refusal
+pub refused : {T E P : Type 0} (r : Result T E) → P → OnErr r P
+refused (Ok x) p = tt
+refused (Err e) p = p
 
 -- ---- lines
 

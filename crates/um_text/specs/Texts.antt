@@ -1,5 +1,5 @@
 -- Texts that are lines of words, as lists of bytes. Report, tree text and normal deck text are such.
-use Rattle.std.specs.Prelude.{ℕ, List, [], ◌∷◌, ◌++◌}
+use Rattle.std.specs.Prelude.{◌≡◌, ℕ, List, [], ◌∷◌, ◌++◌}
 
 -- words, each behind a blank
 abbrev pub behind_blanks : List (List ℕ) → List ℕ
@@ -20,3 +20,8 @@ line_text (word ∷ words) = word ++ line_rest words
 abbrev pub lines_text : List (List (List ℕ)) → List ℕ
 lines_text [] = []
 lines_text (words ∷ lines) = line_text words ++ lines_text lines
+
+-- the new text begins with the old one
+pub record GoesOn (old new : List ℕ) : Type 0 where
+  pub more : List ℕ
+  pub behind : new ≡ old ++ more

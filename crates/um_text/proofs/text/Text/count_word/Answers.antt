@@ -1,0 +1,6 @@
+use Rattle.std.proofs.lemmas.Result.{on_err_weaker}
+use Rattle.um_text.proofs.Puts.{put_behind, goes_on_further}
+use Rattle.um_text.proofs.text.Text.count_word.Goals as goal
+
+pub returns-clause-kept : goal.returns-clause-kept
+returns-clause-kept c = on_err_weaker c.count.result (goes_on_further (put_behind c.in_ok-put.ensures.ok)) c.count.ensures.kept
