@@ -10,7 +10,7 @@ use Rattle.um_lp.specs.declared.board.At.{At}
 use Rattle.um_dual.specs.Choices.{IsWithinEnds, IsThereBefore, LeavesBelow, IsEarlier, IsFirstBelow, EntersBelow}
 use Rattle.um_dual.specs.declared.leaving_row.LeavingRow.{LeavingRow}
 use Rattle.um_dual.specs.declared.entering_column.EnteringColumn.{EnteringColumn}
-use Rattle.um_dual.proofs.Sizes.{below_then}
+use Rattle.um_lp.proofs.Orders.{below_trans}
 
 -- ---- the row that leaves
 -- the next row is within its ends, or a column of less index is there
@@ -46,7 +46,7 @@ enters_same s row to n (Some e) h refused = record {
 
 -- what comes before a column that comes before another
 before_then : (s : State) (row a b c : ℕ) → IsBelow (ratio s row a) (ratio s row b) → ComesBefore s row b c → ComesBefore s row a c
-before_then s row a b c h (inl q) = inl (below_then (ratio s row a) (ratio s row b) (ratio s row c) h q)
+before_then s row a b c h (inl q) = inl (below_trans (ratio s row a) (ratio s row b) (ratio s row c) h q)
 before_then s row a b c h (inr (e, q)) = inl (subst (λ (z : Rational). IsBelow (ratio s row a) z) e h)
 
 -- the next column may enter

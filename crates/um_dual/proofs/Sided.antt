@@ -10,7 +10,7 @@ use Rattle.um_num.proofs.Parts.{zero_parts}
 use Rattle.um_lp.specs.Basis.{sum_below}
 use Rattle.um_laws.proofs.RationalEquations.{by_ring, difference_zero}
 use Rattle.um_lp.proofs.Sums.{sum-cong, sum-add, sum-neg}
-use Rattle.um_dual.proofs.Signs.{turn}
+use Rattle.um_dual.proofs.Signs.{turn, turn_zero}
 use Rattle.um_lp.specs.declared.board.At.{At}
 use Rattle.um_lp.specs.declared.board.At.TheVariants.{Lower, Upper, Zero, Basic}
 use Rattle.um_dual.proofs.Turns.{zero_not_positive, zero_or_positive, turn-mul}
@@ -48,16 +48,10 @@ changes_sum w v x y ex ey =
     sum-cong w _ (λ j. add (mul (v j) (y j)) (neg (mul (v j) (x j)))) (λ j l. by_ring (v j ∷ y j ∷ x j ∷ []) (var 0 ⊗ (var 1 ⊕ opp (var 2))) (var 0 ⊗ var 1 ⊕ opp (var 0 ⊗ var 2)) refl)
     ∙ sum-add w (λ j. mul (v j) (y j)) (λ j. neg (mul (v j) (x j))) ∙ ap (add _) (sum-neg w (λ j. mul (v j) (x j))) ∙ difference_zero _ _ (ey ∙ sym ex)
 
-turned_zero : (to : At) (x : Rational) → x ≡ whole (pos 0) → turn to x ≡ whole (pos 0)
-turned_zero Lower x e = e
-turned_zero Upper x e = ap neg e ∙ by_ring [] (opp nought) nought refl
-turned_zero Zero x e = e
-turned_zero Basic x e = e
-
 -- a row that is 0 at two points can't have all its changes on one side, and one of them strictly
 pub one_sided : (to : At) (w r : ℕ) (v x y : ℕ → Rational) → sum_below w (λ j. mul (v j) (x j)) ≡ whole (pos 0) → sum_below w (λ j. mul (v j) (y j)) ≡ whole (pos 0)
     → r < w → ((j : ℕ) → j < w → IsNonNegative (neg (mul (turn to (v j)) (add (y j) (neg (x j)))))) → IsPositive (neg (mul (turn to (v r)) (add (y r) (neg (x r))))) → ⊥
 one_sided to w r v x y ex ey l h p =
     zero_not_positive _
-    (sum-neg w (λ j. mul (turn to (v j)) (add (y j) (neg (x j)))) ∙ ap neg (sum-turn to w v (λ j. add (y j) (neg (x j))) ∙ turned_zero to _ (changes_sum w v x y ex ey)) ∙ by_ring [] (opp nought) nought refl)
+    (sum-neg w (λ j. mul (turn to (v j)) (add (y j) (neg (x j)))) ∙ ap neg (sum-turn to w v (λ j. add (y j) (neg (x j))) ∙ turn_zero to _ (changes_sum w v x y ex ey)) ∙ by_ring [] (opp nought) nought refl)
     (sum_positive w r (λ j. neg (mul (turn to (v j)) (add (y j) (neg (x j))))) l h p)

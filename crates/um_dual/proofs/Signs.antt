@@ -1,4 +1,4 @@
--- The signs of reduced costs after a step, over plain numbers.
+-- The signs of reduced costs after a step, over numbers.
 use Rattle.std.proofs.Common.{◌≡◌, ◌≢◌, arith, sym, ap, ◌∙◌, subst, refl, inl, inr, [], ◌∷◌}
 use Rattle.std.specs.Prelude.{ℤ, pos, negsuc, zero, suc, ◌<ℤ◌}
 use Rattle.std.proofs.lemmas.Int.{ints}
@@ -123,7 +123,7 @@ over_turned Upper Basic q b d i j e = absurd j
 over_turned Zero to q b d i j e = absurd i
 over_turned Basic to q b d i j e = absurd i
 
-stands_turned : (at : At) (d : Rational) → IsSide at → Stands at d → IsNonNegative (turn at d)
+pub stands_turned : (at : At) (d : Rational) → IsSide at → Stands at d → IsNonNegative (turn at d)
 stands_turned Lower d i h = h
 stands_turned Upper d i h = h
 stands_turned Zero d i h = absurd i
@@ -141,7 +141,7 @@ nonneg_factor p b a e hb ha =
 zero_over : (d b : Rational) → d ≡ whole (pos 0) → mul d b ≡ whole (pos 0)
 zero_over d b e = ap (λ (z : Rational). mul z b) e ∙ by_ring (b ∷ []) (nought ⊗ var 0) nought refl
 
-turn_zero : (to : At) (x : Rational) → x ≡ whole (pos 0) → turn to x ≡ whole (pos 0)
+pub turn_zero : (to : At) (x : Rational) → x ≡ whole (pos 0) → turn to x ≡ whole (pos 0)
 turn_zero Lower x e = e
 turn_zero Upper x e = ap neg e ∙ neg_zero
 turn_zero Zero x e = e

@@ -1,23 +1,12 @@
--- Sizes of numbers, and which of two is below the other.
-use Rattle.std.proofs.Common.{◌≡◌, arith, sym, ap, ◌∙◌, subst, refl, ◌⊎◌, [], ◌∷◌, ◌↔◌}
+-- Sizes of numbers.
+use Rattle.std.proofs.Common.{◌≡◌, arith, sym, ap, ◌∙◌, refl}
 use Rattle.std.specs.Prelude.{ℤ, pos, negsuc, ◌<ℤ◌, ◌≤ℤ◌}
 use Rattle.std.proofs.lemmas.Int.{ints}
 use lib.IntN.{neg_ℤ, nat_abs}
-use Rattle.um_laws.proofs.Ring.{var, ◌⊕◌, opp}
-use Rattle.um_laws.proofs.RationalOrder.{IsPositive, positive-add, nonneg_of_positive}
 use Rattle.um_laws.proofs.RationalParts.{reduce_parts}
-use Rattle.um_laws.specs.Rational.{Rational, reduce, add, neg}
-use Rattle.um_num.specs.Fractions.{IsBelow}
+use Rattle.um_laws.specs.Rational.{Rational, reduce, neg}
 use Rattle.um_lp.specs.DualSteps.{size}
-use Rattle.um_laws.proofs.RationalEquations.{by_ring}
 
--- ---- which is below
-pub below_then : (x y z : Rational) → IsBelow x y → IsBelow y z → IsBelow x z
-below_then x y z p q =
-    subst (λ (w : Rational). IsPositive w) (by_ring (x ∷ y ∷ z ∷ []) ((var 1 ⊕ opp (var 0)) ⊕ (var 2 ⊕ opp (var 1))) (var 2 ⊕ opp (var 0)) refl)
-    (positive-add (add y (neg x)) (add z (neg y)) (nonneg_of_positive (add y (neg x)) p) q)
-
--- ---- sizes
 turned : (n : ℤ) → n <ℤ pos 0 → neg_ℤ n ≡ pos (nat_abs n)
 turned (pos n) h = absurd (omega (arith, ints))
 turned (negsuc n) h = refl

@@ -11,7 +11,7 @@ use Rattle.um_lp.specs.DualSteps.{CanMove}
 use Rattle.um_lp.specs.declared.board.At.{At}
 use Rattle.um_lp.specs.declared.board.At.TheVariants.{Lower, Upper, Zero, Basic}
 use Rattle.um_laws.proofs.RationalEquations.{by_ring}
-use Rattle.um_dual.proofs.Signs.{IsSide, turn, Stands, nonneg_zero}
+use Rattle.um_dual.proofs.Signs.{IsSide, turn, Stands, nonneg_zero, stands_turned}
 use Rattle.um_num.proofs.Order.{not_both}
 
 pub double : (x : Rational) → neg (neg x) ≡ x
@@ -139,12 +139,6 @@ turn-gone Upper x e = sym (double x) ∙ ap neg e ∙ by_ring [] (opp nought) no
 turn-gone Zero x e = e
 turn-gone Basic x e = e
 
-pub stands_side : (at : At) (d : Rational) → IsSide at → Stands at d → IsNonNegative (turn at d)
-stands_side Lower d i h = h
-stands_side Upper d i h = h
-stands_side Zero d i h = absurd i
-stands_side Basic d i h = absurd i
-
 -- ---- what a step gains
 -- the entering column moves by g, its entry v times g is what the leaving column moves, to the side where it lacked
 entering_way : (at to : At) (v g l : Rational) → IsSide at → IsSide to → CanMove at to v → mul v g ≡ l → IsPositive (turn to l) → IsPositive (turn at g)
@@ -163,7 +157,7 @@ gain_nonneg Upper to v g l d j m e p h =
 
 no_gain_at : (at to : At) (v g l d : Rational) → IsSide at → IsSide to → CanMove at to v → mul v g ≡ l → IsPositive (turn to l) → Stands at d → mul d g ≡ whole (pos 0) → d ≡ whole (pos 0)
 no_gain_at at to v g l d i j m e p h z =
-    turn-gone at d (zero_or_positive (turn at d) (stands_side at d i h) (λ q. zero_not_positive (mul d g) z (subst (λ (z : Rational). IsPositive z) (turn-twice at d g) (positive-mul (turn at d) (turn at g) q (entering_way at to v g l i j m e p)))))
+    turn-gone at d (zero_or_positive (turn at d) (stands_turned at d i h) (λ q. zero_not_positive (mul d g) z (subst (λ (z : Rational). IsPositive z) (turn-twice at d g) (positive-mul (turn at d) (turn at g) q (entering_way at to v g l i j m e p)))))
 
 -- and 0 only where the entering column's reduced cost is
 pub no_gain : (at to : At) (v g l d : Rational) → IsSide to → CanMove at to v → mul v g ≡ l → IsPositive (turn to l) → Stands at d → mul d g ≡ whole (pos 0) → d ≡ whole (pos 0)

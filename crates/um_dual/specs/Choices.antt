@@ -2,7 +2,10 @@
 use Rattle.std.specs.Prelude.{◌≡◌, ℕ, ◌<◌, ◌≤◌, Option, Some, None, ◌⊎◌}
 use Rattle.um_laws.specs.Rational.{Rational}
 use Rattle.um_num.specs.Fractions.{IsBelow}
-use Rattle.um_lp.specs.States.{State, width, basic_of}
+use Rattle.um_num.specs.Sizes.{Fits}
+use Rattle.um_num.specs.declared.exact.Wide.{Wide}
+use Rattle.um_lp.specs.States.{State, width, basic_of, entry_of, value_of}
+use Rattle.um_lp.specs.Refusals.{IsRefusedAt}
 use Rattle.um_lp.specs.DualSteps.{IsOutsideAt, Leaves, MayEnter, ComesBefore, Enters, ratio}
 use Rattle.um_lp.specs.declared.board.At.{At}
 use Rattle.um_dual.specs.declared.leaving_row.LeavingRow.{LeavingRow}
@@ -36,6 +39,14 @@ abbrev pub IsLeaving : State → Option LeavingRow → Type 0
 IsLeaving s None = (row : ℕ) (side : At) → row < s.frame.rows → ¬ IsOutsideAt s row side
 IsLeaving s (Some l) = Leaves s l.row l.to × (l.column ≡ basic_of s l.row)
 
+-- the row that leaves is not known, as the value of a row's basic column is not read: it is itself out of range, and that column may be the one of least index, since each of the rows before that is outside its ends has a greater one
+pub record IsRefusedLeaving (s : State) (w : Wide) : Type 0 where
+  pub row : ℕ
+  pub within : row < s.frame.rows
+  pub before : (other : ℕ) (side : At) → other < row → IsOutsideAt s other side → basic_of s row < basic_of s other
+  pub large : ¬ Fits (value_of s (basic_of s row))
+  pub refused : IsRefusedAt s w
+
 -- ---- the column that enters
 
 -- the ratio of a column that may enter, and nothing of another
@@ -64,3 +75,10 @@ EntersBelow s row to n (Some e) = IsFirstBelow s row to n e
 abbrev pub IsEntering : State → ℕ → At → Option EnteringColumn → Type 0
 IsEntering s row to None = (column : ℕ) → column < width s.frame → ¬ MayEnter s row to column
 IsEntering s row to (Some e) = Enters s row to e.column × (e.ratio ≡ ratio s row e.column)
+
+-- the column that enters for this row is not known, as the ratio of a column is not read, or not whether that column may enter: it may, or its entry is itself out of range
+pub record IsRefusedRatio (s : State) (row : ℕ) (to : At) (w : Wide) : Type 0 where
+  pub column : ℕ
+  pub within : column < width s.frame
+  pub may : MayEnter s row to column ⊎ ¬ Fits (entry_of s row column)
+  pub refused : IsRefusedAt s w

@@ -1,12 +1,15 @@
 //! The column that enters.
 
-ghost use Rattle.std.specs.Prelude.{◌≡◌, ◌<◌, ◌+◌, ◌↔◌, IsTrue, IfOk, IfErr};
-ghost use Rattle.um_lp.specs.Refusals.{IsRefusedAt};
+ghost use Rattle.std.specs.Prelude.{◌≡◌, ◌<◌, ◌+◌, ◌↔◌, pos, IsTrue, IfOk, IfErr};
+ghost use Rattle.std.specs.Ordering.{int_cmp};
+ghost use Rattle.um_laws.specs.Rational.{Rational};
+ghost use Rattle.um_lp.specs.DualSteps.{CanMove};
 ghost use Rattle.um_lp.specs.States.{width};
-ghost use Rattle.um_dual.specs.Choices.{IsRatio, IsEarlier, EntersBelow, IsEntering};
+ghost use Rattle.um_dual.specs.Choices.{IsRatio, IsEarlier, EntersBelow, IsEntering, IsRefusedRatio};
 
 use crate::numbers::size;
-use um_lp::{At, Board, Wide, can_move};
+use std::cmp::Ordering;
+use um_lp::{At, Board, Wide, harms, helps};
 use um_num::Frac;
 
 /// A column that may enter, with the size of its reduced cost over its entry.
@@ -16,13 +19,16 @@ pub struct EnteringColumn {
     pub ratio: Frac,
 }
 
-/// A basic column may not enter, and its entry need not be read.
-fn is_basic(at: At) -> bool
-    ensures { IsTrue result ↔ (at ≡ At.Basic) }
+/// Whether a column that stands at `at` can move the way in which it helps.
+#[tactic(auto, using(um_lp::proofs::EntrySigns::is_not_zero))]
+fn can_move(at: At, to: At, sign: Ordering) -> bool
+    ensures { (entry : Rational) → sign ≡ int_cmp entry.num (pos 0) → IsTrue result ↔ CanMove at to entry }
 {
     match at {
-        At::Basic => true,
-        At::Lower | At::Upper | At::Zero => false,
+        At::Lower => helps(to, sign),
+        At::Upper => harms(to, sign),
+        At::Zero => sign.is_ne(),
+        At::Basic => false,
     }
 }
 
@@ -31,16 +37,14 @@ fn ratio_of<B: Board>(board: &B, row: u32, to: At, column: u32) -> Result<Option
     requires row { row < (B.state board.now).frame.rows }
     requires column { column < width (B.state board.now).frame }
     ensures ratio { IfOk result (IsRatio (B.state board.now) row to column) }
-    ensures wide { IfErr result (IsRefusedAt (B.state board.now)) }
+    ensures wide { IfErr result (IsRefusedRatio (B.state board.now) row to) }
 {
-    let at = board.at(column);
-    if is_basic(at) {
+    // A column that may not enter is seen without its fractions, which is most of them.
+    let sign = board.sign(row, column)?;
+    if !can_move(board.at(column), to, sign) {
         return Ok(None);
     }
     let entry = board.entry(row, column)?;
-    if !can_move(at, to, &entry) {
-        return Ok(None);
-    }
     let cost = board.cost(column)?;
     let quotient = cost.div(&entry)?;
     Ok(Some(size(&quotient)))
@@ -68,7 +72,7 @@ fn with_column<B: Board>(
     requires column { column < width (B.state board.now).frame }
     requires first { EntersBelow (B.state board.now) row to column first }
     ensures first { IfOk result (EntersBelow (B.state board.now) row to (column + 1)) }
-    ensures wide { IfErr result (IsRefusedAt (B.state board.now)) }
+    ensures wide { IfErr result (IsRefusedRatio (B.state board.now) row to) }
 {
     match ratio_of(board, row, to, column)? {
         Some(ratio) => Ok(Some(earlier(first, EnteringColumn { column, ratio }))),
@@ -80,7 +84,7 @@ fn with_column<B: Board>(
 pub fn entering<B: Board>(board: &B, row: u32, to: At) -> Result<Option<EnteringColumn>, Wide>
     requires { row < (B.state board.now).frame.rows }
     ensures first { IfOk result (IsEntering (B.state board.now) row to) }
-    ensures wide { IfErr result (IsRefusedAt (B.state board.now)) }
+    ensures wide { IfErr result (IsRefusedRatio (B.state board.now) row to) }
 {
     let mut first = None;
     for column in 0..board.columns() {

@@ -1,10 +1,11 @@
 //! The row whose basic column leaves.
 
 ghost use Rattle.std.specs.Prelude.{◌≡◌, ◌<◌, ◌+◌, ◌↔◌, IsTrue, IfOk, IfErr, MatchOption};
+ghost use Rattle.um_num.specs.Sizes.{Fits};
 ghost use Rattle.um_lp.specs.Refusals.{IsRefusedAt};
 ghost use Rattle.um_lp.specs.DualSteps.{IsOutsideAt};
-ghost use Rattle.um_lp.specs.States.{basic_of};
-ghost use Rattle.um_dual.specs.Choices.{IsWithinEnds, IsThereBefore, LeavesBelow, IsLeaving};
+ghost use Rattle.um_lp.specs.States.{basic_of, value_of};
+ghost use Rattle.um_dual.specs.Choices.{IsWithinEnds, IsThereBefore, LeavesBelow, IsLeaving, IsRefusedLeaving};
 
 use um_lp::{At, Board, Wide, is_above_end, is_below_end};
 
@@ -23,6 +24,7 @@ fn outside<B: Board>(board: &B, row: u32) -> Result<Option<At>, Wide>
     requires { row < (B.state board.now).frame.rows }
     ensures side { IfOk result (λ to. MatchOption to (IsWithinEnds (B.state board.now) row) (IsOutsideAt (B.state board.now) row)) }
     ensures wide { IfErr result (IsRefusedAt (B.state board.now)) }
+    ensures large { IfErr result (λ _. ¬ Fits (value_of (B.state board.now) (basic_of (B.state board.now) row))) }
 {
     let column = board.basic(row);
     let (low, high) = board.ends(column);
@@ -45,7 +47,7 @@ fn with_row<B: Board>(
     requires row { row < (B.state board.now).frame.rows }
     requires first { LeavesBelow (B.state board.now) row first }
     ensures first { IfOk result (LeavesBelow (B.state board.now) (row + 1)) }
-    ensures wide { IfErr result (IsRefusedAt (B.state board.now)) }
+    ensures wide { IfErr result (IsRefusedLeaving (B.state board.now)) }
 {
     let column = board.basic(row);
     if comes_before(first, column) {
@@ -70,7 +72,7 @@ fn comes_before(first: Option<LeavingRow>, column: u32) -> bool
 /// Of the basic columns outside their ends, the one of least index.
 pub fn leaving<B: Board>(board: &B) -> Result<Option<LeavingRow>, Wide>
     ensures first { IfOk result (IsLeaving (B.state board.now)) }
-    ensures wide { IfErr result (IsRefusedAt (B.state board.now)) }
+    ensures wide { IfErr result (IsRefusedLeaving (B.state board.now)) }
 {
     let mut first = None;
     for row in 0..board.rows() {

@@ -1,10 +1,9 @@
 //! One step of the method, and the run of steps.
 
 ghost use Rattle.std.specs.Prelude.{◌≡◌, ◌≢◌, ◌≤◌, ◌-◌, ◌^◌, IfOk, IfErr};
-ghost use Rattle.um_lp.specs.Refusals.{IsRefusedAt};
 ghost use Rattle.um_lp.specs.DualSteps.{IsNext, AreSteps, IsDualFeasible};
 ghost use Rattle.um_lp.specs.States.{width};
-ghost use Rattle.um_dual.specs.Methods.{next_of, IsStepped, HasEnded};
+ghost use Rattle.um_dual.specs.Methods.{next_of, IsRefusedNext, IsStepped, HasEnded};
 ghost use Rattle.um_dual.specs.Used.{is_used, count_below};
 
 use crate::{entering, leaving};
@@ -49,7 +48,7 @@ pub enum Ended {
 /// What comes next.
 pub fn next<B: Board>(board: &B) -> Result<Choice, Wide>
     ensures next { IfOk result (λ choice. IsNext (B.state board.now) (next_of choice)) }
-    ensures wide { IfErr result (IsRefusedAt (B.state board.now)) }
+    ensures wide { IfErr result (IsRefusedNext (B.state board.now)) }
 {
     let Some(leaving) = leaving(board)? else {
         return Ok(Choice::Ended);

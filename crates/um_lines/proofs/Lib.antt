@@ -7,3 +7,4 @@ pub mod Lowests
 pub mod Guesses
 pub mod HeldSums
 pub mod LineValues
+pub mod SameSigns

@@ -45,6 +45,3 @@ quotient_short a d q up e h =
     let size : unsigned_abs q * unsigned_abs d ≡ unsigned_abs a = sym (unsigned_abs-mul q d) ∙ ap unsigned_abs e in
     let one : 1 ≤ unsigned_abs d = omega (arith, ints) in
     omega (arith, mul-le-mul_left (unsigned_abs q) one)
-
-pub taken_as : {A E : Type 0} (r s : Result A E) → r ≡ s → IsOk s → IsOk r
-taken_as r s e h = rw e h

@@ -1,12 +1,12 @@
 -- Rows of whole numbers.
-use Rattle.std.proofs.Common.{◌≡◌, ◌≢◌, ℕ, zero, suc, ◌+◌, ◌<◌, ◌≤◌, ℤ, pos, negsuc, ◌-ℤ◌, ◌*ℤ◌, ◌*◌, ◌≤ℤ◌, List, length, slice_set, arith, unsigned_abs, sym, ◌∙◌, ap, subst, refl, below_more, inl, inr, ◌⊎◌, Result, IfOk, IfErr}
+use Rattle.std.proofs.Common.{◌≡◌, ◌≢◌, ℕ, zero, suc, ◌+◌, ◌<◌, ◌≤◌, ℤ, pos, negsuc, ◌-ℤ◌, ◌*ℤ◌, ◌*◌, ◌≤ℤ◌, List, length, slice_set, arith, unsigned_abs, sym, ◌∙◌, ap, subst, refl, below_more, inl, inr, ◌⊎◌, Result, IfOk}
 use Rattle.std.specs.Int.{◌∣◌}
 use Rattle.std.proofs.lemmas.Int.{ints, unsigned_abs-mul}
-use Rattle.std.proofs.lemmas.Bool.{cases_Bool, ltb-false, cond-true, cond-false}
+use Rattle.std.proofs.lemmas.Bool.{cases_Bool, cond-true, cond-false}
 use Rattle.std.proofs.lemmas.List.{get_or-set_same, get_or-set_other, length-set}
 use Rattle.std.proofs.Math.Nat.{dvd_refl, dvd_trans, dvd-mul_right, one-dvd, mul-le-mul_left}
 use lib.IntN.{neg_ℤ}
-use Rattle.um_num.specs.Numbers.{IsInRange, exact, in_range, stepped, IsOutOfRange}
+use Rattle.um_num.specs.Numbers.{IsInRange, exact, in_range, stepped}
 use Rattle.um_num.specs.declared.exact.Op.{Op}
 use Rattle.um_num.specs.declared.exact.Wide.{Wide}
 use Rattle.um_lines.specs.Lines.{whole_at, AreInRange}
@@ -19,15 +19,6 @@ step_value op a b r e =
     elim (cases_Bool (in_range (exact op a b))) [
       | inl t ↦ rw (e ∙ cond-true _ _ _ t) refl
       | inr t ↦ rw (e ∙ cond-false _ _ _ t) tt
-    ]
-
--- a step that is refused is out of range
-pub step_wide : (op : Op) (a b : ℤ) (r : Result ℤ Wide) → r ≡ stepped op a b → IsInRange a → IsInRange b → IfErr r IsOutOfRange
-unfolding stepped
-step_wide op a b r e ha hb =
-    elim (cases_Bool (in_range (exact op a b))) [
-      | inl t ↦ rw (e ∙ cond-true _ _ _ t) tt
-      | inr t ↦ rw (e ∙ cond-false _ _ _ t) (record { left = ha; right = hb; result = λ fits. let long = ltb-false _ _ t in omega arith })
     ]
 
 -- ---- one more number of a row is written

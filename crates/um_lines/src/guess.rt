@@ -1,6 +1,7 @@
 //! What the denominator and the numbers of a sum of rows have in common, from the first few sums.
 
-ghost use Rattle.std.specs.Prelude.{◌≡◌, ℕ, ◌<◌, ◌≤◌, pos, ◌+ℤ◌, ◌*ℤ◌, ◌≤ℤ◌, length, unsigned_abs, IfSome};
+ghost use Rattle.std.specs.Prelude.{◌≡◌, ℕ, ◌<◌, ◌≤◌, ◌^◌, pos, ◌+ℤ◌, ◌*ℤ◌, ◌≤ℤ◌, length, unsigned_abs, IfSome};
+ghost use Rattle.std.specs.Option.{IsSome};
 ghost use Rattle.std.specs.Int.{◌∣◌, int_wrap, w64};
 ghost use Rattle.um_num.specs.Numbers.{IsInRange};
 ghost use Rattle.um_lines.specs.Combined.{sum_at, IsGuess};
@@ -124,7 +125,8 @@ fn guess_long(den: i128, factors: &ShortFactors, own: &[i64], other: &[i64], eno
 
 /// The number in 64 bits, where it is not below 0 and fits.
 pub fn short_size(number: i128) -> Option<u64>
-    ensures { IfSome result (λ size. pos size ≡ number) }
+    ensures value { IfSome result (λ size. pos size ≡ number) }
+    ensures taken { pos 0 ≤ℤ number → unsigned_abs number < 2 ^ 64 → IsSome result }
 {
     match u64::try_from(number) {
         Ok(size) => Some(size),

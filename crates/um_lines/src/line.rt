@@ -4,12 +4,14 @@ ghost use Rattle.std.specs.Prelude.{◌≡◌, ◌≢◌, ℕ, ◌<◌, pos, len
 ghost use Rattle.um_laws.specs.Rational.{add, mul, neg, inverse, whole};
 ghost use Rattle.um_num.specs.Numbers.{IsOutOfRange};
 ghost use Rattle.um_num.specs.NumberLists.{number_at};
+ghost use Rattle.std.specs.Ordering.{int_cmp};
 ghost use Rattle.std.specs.Result.{IsOk};
 ghost use Rattle.um_lines.specs.Lines.{AreInRange, HasMinusOne, IsShortLine};
 
 use crate::nums::Nums;
 use crate::sums::{add_multiple, divide_by_entry};
 use std::alloc::{AllocError, Global};
+use std::cmp::Ordering;
 use std::marker::Model;
 use um_num::{Frac, Wide};
 
@@ -62,6 +64,14 @@ impl Line {
         ensures { result ≡ number_at self.now column }
     {
         Frac::new(self.nums.get(column), self.den)
+    }
+
+    /// Whether the number at a column is above, at or below 0.
+    pub fn sign(&self, column: usize) -> Ordering
+        requires { column < length self.now }
+        ensures { result ≡ int_cmp (number_at self.now column).num (pos 0) }
+    {
+        self.nums.get(column).cmp(&0)
     }
 
     /// Whether the number at a column is 0.

@@ -1,7 +1,9 @@
 //! Sums of products of 64-bit numbers.
 
 ghost use Rattle.std.specs.Prelude.{◌≡◌, ◌*◌, ◌<◌, ◌≤◌, ◌^◌, ◌+ℤ◌, ◌*ℤ◌, unsigned_abs, IfSome};
+ghost use Rattle.std.specs.Option.{IsSome};
 ghost use Rattle.um_num.specs.Numbers.{IsInRange};
+ghost use Rattle.um_num.specs.Sizes.{IsShort};
 
 use crate::whole::Factors;
 use um_num::long_product;
@@ -22,6 +24,7 @@ const LONG: i128 = 1 << 62;
 pub fn short_factors(factors: &Factors) -> Option<ShortFactors>
     ensures own { IfSome result (λ short. short.own ≡ factors.now.own) }
     ensures other { IfSome result (λ short. short.other ≡ factors.now.other) }
+    ensures taken { IsShort factors.now.own → IsShort factors.now.other → IsSome result }
 {
     if -LONG < factors.own && factors.own < LONG && -LONG < factors.other && factors.other < LONG {
         Some(ShortFactors {

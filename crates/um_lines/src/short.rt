@@ -1,9 +1,10 @@
 //! Sums of rows of 64-bit numbers over what divides them.
 
-ghost use Rattle.std.specs.Prelude.{◌≡◌, ℕ, ◌<◌, ◌≤◌, ◌^◌, ◌%◌, ◌*◌, ◌+◌, ◌+ℤ◌, ◌*ℤ◌, pos, length, unsigned_abs, IfSome, IsTrue};
+ghost use Rattle.std.specs.Prelude.{◌≡◌, ℕ, ◌<◌, ◌≤◌, ◌^◌, ◌%◌, ◌*◌, ◌+◌, ◌+ℤ◌, ◌*ℤ◌, pos, length, unsigned_abs, IfSome, IsTrue, ◌↔◌};
+ghost use Rattle.std.specs.Option.{IsSome};
 ghost use Rattle.std.specs.Int.{int_shr, int_wrap, w64};
 ghost use Rattle.um_lines.specs.Lines.{whole_at};
-ghost use Rattle.um_lines.specs.Turns.{turned, IsTurns, IsTopOver, AreSummedOver, AreWithin};
+ghost use Rattle.um_lines.specs.Turns.{turned, IsTurns, IsTopOver, AreWithin};
 
 /// A number as an odd one times a power of 2.
 #[derive(Clone, Copy, Debug)]
@@ -160,7 +161,13 @@ fn combine_shifted(turns: &Turns, own: &[i64], other: &[i64], out: &mut [i64]) -
 
 /// The same. Without factors of 2 there is less to do for each number, and least where the own row is
 /// taken once.
-fn combine_turned(turns: &Turns, own: &[i64], own_top: u64, other: &[i64], out: &mut [i64]) -> u64
+pub fn combine_turned(
+    turns: &Turns,
+    own: &[i64],
+    own_top: u64,
+    other: &[i64],
+    out: &mut [i64],
+) -> u64
     requires shift { turns.now.shift < 64 }
     requires own_within { AreWithin own_top own.now }
     requires other_fits { length other.now ≡ length own.now }
@@ -180,7 +187,7 @@ fn combine_turned(turns: &Turns, own: &[i64], own_top: u64, other: &[i64], out: 
 
 /// Whether each sum of two numbers within these sizes, each times its factor, has 64 bits.
 pub fn are_sums_short(own: i64, own_top: u64, other: i64, other_top: u64) -> bool
-    ensures { IsTrue result → own_top * unsigned_abs own + other_top * unsigned_abs other < 2 ^ 63 }
+    ensures { IsTrue result ↔ own_top * unsigned_abs own + other_top * unsigned_abs other < 2 ^ 63 }
 {
     let left = u128::from(own_top) * u128::from(own.unsigned_abs());
     let right = u128::from(other_top) * u128::from(other.unsigned_abs());
@@ -188,9 +195,10 @@ pub fn are_sums_short(own: i64, own_top: u64, other: i64, other_top: u64) -> boo
 }
 
 /// The size of the quotients, where they are exact.
-fn top_over(turns: &Turns, sizes: u64) -> Option<u64>
+pub fn top_over(turns: &Turns, sizes: u64) -> Option<u64>
     requires { turns.now.shift < 64 }
-    ensures { IfSome result (IsTopOver turns.now sizes) }
+    ensures value { IfSome result (IsTopOver turns.now sizes) }
+    ensures taken { sizes % 2 ^ turns.now.shift ≡ 0 → sizes * unsigned_abs turns.now.odd < 2 ^ 63 → sizes < 2 ^ 63 → IsSome result }
 {
     let top = sizes >> turns.shift;
     let whole = u128::from(sizes) * u128::from(turns.odd.unsigned_abs());
@@ -199,32 +207,4 @@ fn top_over(turns: &Turns, sizes: u64) -> Option<u64>
     } else {
         None
     }
-}
-
-/// Writes the sum of two rows of 64-bit numbers, each times its factor, over what is thought to divide
-/// it, and gives a bound of the sizes. Where it does not divide, or sums are long, there is none.
-pub fn combine_short(
-    own_factor: i64,
-    other_factor: i64,
-    divisor: u64,
-    own: &[i64],
-    own_top: u64,
-    other: &[i64],
-    other_top: u64,
-    out: &mut [i64],
-) -> Option<u64>
-    requires own_within { AreWithin own_top own.now }
-    requires other_within { AreWithin other_top other.now }
-    requires other_fits { length other.now ≡ length own.now }
-    requires out_fits { length out.old ≡ length own.now }
-    ensures value { IfSome result (λ top. AreSummedOver divisor own_factor other_factor own.now other.now out.new) }
-    ensures within { IfSome result (λ top. AreWithin top out.new) }
-    ensures short { IfSome result (λ top. top < 2 ^ 63) }
-{
-    if !are_sums_short(own_factor, own_top, other_factor, other_top) {
-        return None;
-    }
-    let turns = turns_of(own_factor, other_factor, divisor)?;
-    let sizes = combine_turned(&turns, own, own_top, other, out);
-    top_over(&turns, sizes)
 }

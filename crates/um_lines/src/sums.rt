@@ -164,35 +164,7 @@ fn add_slowly(
     Ok(reduce(sum_den, out))
 }
 
-/// The same, written to the long form, which is then settled.
-fn add_long(
-    own: &Nums,
-    line: &Nums,
-    factors: &Factors,
-    sum_den: i128,
-    out: &mut Nums,
-) -> Result<i128, Wide>
-    requires own { IsNums own.now }
-    requires line { IsNums line.now }
-    requires out { IsNums out.old }
-    requires own_factor { IsInRange factors.now.own }
-    requires other_factor { IsInRange factors.now.other }
-    requires positive { pos 1 ≤ℤ sum_den }
-    requires den_in { IsInRange sum_den }
-    requires line_fits { length (nums_of line.now) ≡ length (nums_of own.now) }
-    requires out_fits { length (nums_of out.old) ≡ length (nums_of own.now) }
-    ensures value { IfOk result (λ den. IsAdded factors.now (nums_of own.now) (nums_of line.now) sum_den den (nums_of out.new)) }
-    ensures out { IsNums out.new }
-    ensures long { length (nums_of out.new) ≡ length (nums_of own.now) }
-    ensures short { AreShort (nums_of own.now) → AreShort (nums_of line.now) → IsShort factors.now.own → IsShort factors.now.other → IsOk result }
-    ensures wide { IfErr result IsOutOfRange }
-{
-    let den = add_slowly(own, line, factors, sum_den, out.long.as_mut_slice())?;
-    out.settle();
-    Ok(den)
-}
-
-/// The same for two rows of 64-bit numbers. Where numbers are long, there is none.
+/// The same for two rows of 64-bit numbers, held in either form. Where numbers are long, there is none.
 fn add_both_short(
     own: &Nums,
     line: &Nums,
@@ -253,10 +225,12 @@ fn add_rows(
     ensures short { AreShort (nums_of own.now) → AreShort (nums_of line.now) → IsShort factors.now.own → IsShort factors.now.other → IsOk result }
     ensures wide { IfErr result IsOutOfRange }
 {
-    match add_both_short(own, line, factors, sum_den, out) {
-        Some(den) => Ok(den),
-        None => add_long(own, line, factors, sum_den, out),
+    if let Some(den) = add_both_short(own, line, factors, sum_den, out) {
+        return Ok(den);
     }
+    let den = add_slowly(own, line, factors, sum_den, out.long.as_mut_slice())?;
+    out.settle();
+    Ok(den)
 }
 
 /// Writes to `out` and `out_den` the row and the line times the row's entry at the column, in lowest
@@ -309,11 +283,11 @@ pub fn divide_by_entry(nums: &Nums, column: usize, out: &mut Nums) -> i128
     ensures value { (den : ℤ) → pos 1 ≤ℤ den → (j : ℕ) → j < length (nums_of nums.now) → rational (whole_at (nums_of out.new) j) result ≡ mul (neg (inverse (rational (whole_at (nums_of nums.now) column) den))) (rational (whole_at (nums_of nums.now) j) den) }
 {
     let entry = nums.get(column);
+    nums.copy_to(out);
     if entry > 0 {
-        nums.negate_to(out);
+        out.turn();
         entry
     } else {
-        nums.copy_to(out);
         -entry
     }
 }

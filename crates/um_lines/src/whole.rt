@@ -72,28 +72,25 @@ pub fn combine_slowly(
     Ok(())
 }
 
-/// Writes the negative of a row to `out`.
-pub fn negate(nums: &[i128], out: &mut [i128])
-    requires range { AreInRange nums.now }
-    requires out { AreInRange out.old }
-    requires out_fits { length out.old ≡ length nums.now }
-    ensures value { (j : ℕ) → j < length nums.now → whole_at out.new j ≡ neg_ℤ (whole_at nums.now j) }
-    ensures range { AreInRange out.new }
+/// Turns the sign of each number of a row.
+pub fn negate(nums: &mut [i128])
+    requires range { AreInRange nums.old }
+    ensures value { (j : ℕ) → j < length nums.old → whole_at nums.new j ≡ neg_ℤ (whole_at nums.old j) }
+    ensures range { AreInRange nums.new }
 {
     for j in 0..nums.len() {
-        out[j] = -nums[j];
+        nums[j] = -nums[j];
     }
 }
 
 /// The same for 64-bit numbers.
-pub fn negate_short(nums: &[i64], top: u64, out: &mut [i64])
-    requires within { AreWithin top nums.now }
+pub fn negate_short(nums: &mut [i64], top: u64)
+    requires within { AreWithin top nums.old }
     requires top_short { top < 2 ^ 63 }
-    requires out_fits { length out.old ≡ length nums.now }
-    ensures value { (j : ℕ) → j < length nums.now → whole_at out.new j ≡ neg_ℤ (whole_at nums.now j) }
-    ensures within { AreWithin top out.new }
+    ensures value { (j : ℕ) → j < length nums.old → whole_at nums.new j ≡ neg_ℤ (whole_at nums.old j) }
+    ensures within { AreWithin top nums.new }
 {
     for j in 0..nums.len() {
-        out[j] = -nums[j];
+        nums[j] = -nums[j];
     }
 }

@@ -6,7 +6,7 @@ ghost use Rattle.um_lines.specs.Lines.{whole_at};
 ghost use Rattle.um_lines.specs.Turns.{AreSummedOver, AreWithin};
 
 use crate::products::{ShortFactors, short_combination};
-use crate::short::{Turns, are_sums_short, combine_short, turned_sum, turns_of};
+use crate::short::{Turns, are_sums_short, combine_turned, top_over, turned_sum, turns_of};
 use um_num::long_product;
 
 /// The sum of two numbers, each times its factor, over a divisor, where it is short and divides.
@@ -82,17 +82,11 @@ pub fn combine_sums(
     ensures within { IfSome result (λ top. AreWithin top out.new) }
     ensures short { IfSome result (λ top. top < 2 ^ 63) }
 {
+    // Each way has turns of its own: those of the first then stand in registers.
     if are_sums_short(factors.own, own_top, factors.other, other_top) {
-        return combine_short(
-            factors.own,
-            factors.other,
-            divisor,
-            own,
-            own_top,
-            other,
-            other_top,
-            out,
-        );
+        let turns = turns_of(factors.own, factors.other, divisor)?;
+        let sizes = combine_turned(&turns, own, own_top, other, out);
+        return top_over(&turns, sizes);
     }
     let number = signed(divisor)?;
     let turns = turns_of(factors.own, factors.other, divisor)?;

@@ -1,5 +1,6 @@
 pub mod Acts
 pub mod Denominators
+pub mod EntrySigns
 pub mod Examples
 pub mod NarrowNumbers
 pub mod NarrowParts

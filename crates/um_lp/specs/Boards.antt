@@ -73,16 +73,18 @@ pub record IsPivot (row column : ℕ) (to : At) (s t : State) : Type 0 where
   pub ends : t.ends ≡ s.ends
   pub board : IsBoard t
 
--- where a nonbasic column stands with a reduced cost of 0 when it gets these ends: where it stood if that end is finite, else at its low end, else at its high end, else at Zero
+-- at the low end if that is finite, else at the high end if that is, else at Zero
 abbrev pub resting_with : Option ℤ → Option ℤ → At
 resting_with (Some low) high = Lower
 resting_with None (Some high) = Upper
 resting_with None None = Zero
 
+-- where the column stood if its end there is finite, else at the other place
 abbrev pub stays_or : At → Option ℤ → At → At
 stays_or at (Some end) other = at
 stays_or at None other = other
 
+-- where a nonbasic column stands with a reduced cost of 0 when it gets these ends: where it stood if that end is finite, else at its low end, else at its high end, else at Zero
 abbrev pub resting : At → Option ℤ × Option ℤ → At
 resting at ends = stays_or at (end_at at ends) (resting_with ends.0 ends.1)
 

@@ -10,10 +10,11 @@ use Rattle.um_lp.specs.declared.board.At.TheVariants.{Lower, Upper, Zero, Basic}
 
 -- ---- the row that leaves
 
--- the value is below its low end, or above its high end
+-- the value is below its low end, which is finite
 abbrev pub IsBelowEnd : Option ℤ → Rational → Type 0
 IsBelowEnd low value = (end : ℤ) × (low ≡ Some end) × IsBelow value (whole end)
 
+-- the value is above its high end, which is finite
 abbrev pub IsAboveEnd : Option ℤ → Rational → Type 0
 IsAboveEnd high value = (end : ℤ) × (high ≡ Some end) × IsBelow (whole end) value
 
@@ -39,6 +40,7 @@ Helps Upper entry = entry.num <ℤ pos 0
 Helps Zero entry = ⊥
 Helps Basic entry = ⊥
 
+-- the row's basic column gains where the column falls: the other sign of the entry
 abbrev pub Harms : At → Rational → Type 0
 Harms Lower entry = entry.num <ℤ pos 0
 Harms Upper entry = pos 0 <ℤ entry.num
@@ -52,6 +54,7 @@ CanMove Upper to entry = Harms to entry
 CanMove Zero to entry = entry ≢ whole (pos 0)
 CanMove Basic to entry = ⊥
 
+-- the column may enter for the row whose basic column leaves to this end
 abbrev pub MayEnter : State → ℕ → At → ℕ → Type 0
 MayEnter s row to column = CanMove (at_of s column) to (entry_of s row column)
 

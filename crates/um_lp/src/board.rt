@@ -3,11 +3,14 @@
 ghost use Rattle.std.specs.Prelude.{◌≡◌, ◌≢◌, ◌<◌, pos, Option, ℤ, IfOk, IfErr, OnOk, OnErr};
 ghost use Rattle.um_laws.specs.Rational.{whole};
 ghost use Rattle.um_num.specs.Numbers.{IsInRange};
+ghost use Rattle.um_num.specs.Sizes.{Fits};
 ghost use Rattle.std.specs.Option.{ForSome};
+ghost use Rattle.std.specs.Ordering.{int_cmp};
 ghost use Rattle.um_lp.specs.Boards.{IsBoard, IsPivot, IsRebox, IsFinite, AreOrdered, IsWantedEndFinite};
 ghost use Rattle.um_lp.specs.Refusals.{IsRefusedAt, IsRefusedAct};
 ghost use Rattle.um_lp.specs.States.{State, width, at_of, basic_of, ends_of, entry_of, reduced_of, value_of};
 
+use std::cmp::Ordering;
 use um_num::{Frac, Wide};
 
 /// Where a column of a board stands.
@@ -75,16 +78,27 @@ pub trait Board {
         ensures value { IfOk result (λ entry. entry ≡ entry_of (state self.now) row column) }
         ensures wide { IfErr result (IsRefusedAt (state self.now)) };
 
+    /// Whether that is above, at or below 0. It costs less than the entry itself, and is refused only
+    /// where the entry is itself out of range.
+    fn sign(&self, row: u32, column: u32) -> Result<Ordering, Wide>
+        requires row_in { row < (state self.now).frame.rows }
+        requires column_in { column < width (state self.now).frame }
+        ensures value { IfOk result (λ sign. sign ≡ int_cmp (entry_of (state self.now) row column).num (pos 0)) }
+        ensures wide { IfErr result (IsRefusedAt (state self.now)) }
+        ensures large { IfErr result (λ _. ¬ Fits (entry_of (state self.now) row column)) };
+
     /// The reduced cost of a column.
     fn cost(&self, column: u32) -> Result<Frac, Wide>
         requires { column < width (state self.now).frame }
         ensures value { IfOk result (λ cost. cost ≡ reduced_of (state self.now) column) }
         ensures wide { IfErr result (IsRefusedAt (state self.now)) };
 
+    /// The value of a column. It is refused only where it is itself out of range.
     fn value(&self, column: u32) -> Result<Frac, Wide>
         requires { column < width (state self.now).frame }
         ensures value { IfOk result (λ value. value ≡ value_of (state self.now) column) }
-        ensures wide { IfErr result (IsRefusedAt (state self.now)) };
+        ensures wide { IfErr result (IsRefusedAt (state self.now)) }
+        ensures large { IfErr result (λ _. ¬ Fits (value_of (state self.now) column)) };
 
     /// The column enters the basis, and the basic column of the row leaves to the named end.
     fn pivot(&mut self, row: u32, column: u32, to: At) -> Result<(), Wide>

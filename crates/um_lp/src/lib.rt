@@ -17,6 +17,6 @@ mod sides;
 
 pub use board::{At, Board, Costs};
 pub use relaxation::{Bend, Relaxation, Term};
-pub use sides::{can_move, harms, helps, is_above_end, is_below_end};
+pub use sides::{harms, helps, is_above_end, is_below_end};
 pub use um_multipliers::{Multipliers, Price};
 pub use um_num::Wide;

@@ -1,45 +1,38 @@
 //! Which way a column helps one that leaves, and which end a value is beyond.
 
-ghost use Rattle.std.specs.Prelude.{◌↔◌, IsTrue};
+ghost use Rattle.std.specs.Prelude.{◌≡◌, ◌↔◌, pos, IsTrue};
 ghost use Rattle.std.specs.Option.{ForSome};
+ghost use Rattle.std.specs.Ordering.{int_cmp};
+ghost use Rattle.um_laws.specs.Rational.{Rational};
 ghost use Rattle.um_num.specs.Numbers.{IsInRange};
-ghost use Rattle.um_lp.specs.DualSteps.{Helps, Harms, CanMove, IsBelowEnd, IsAboveEnd};
+ghost use Rattle.um_lp.specs.DualSteps.{Helps, Harms, IsBelowEnd, IsAboveEnd};
 
 use crate::board::At;
+use std::cmp::Ordering;
 use um_num::Frac;
 
-/// Whether the basic column that leaves to this end comes nearer to it where the column of this entry
-/// rises.
-pub fn helps(to: At, entry: &Frac) -> bool
-    ensures { IsTrue result ↔ Helps to entry.now }
+/// Whether a column comes to the help of one that leaves to this end where it rises, by the sign of its
+/// entry.
+#[tactic(auto, using(crate::proofs::EntrySigns::is_above, crate::proofs::EntrySigns::is_below))]
+pub fn helps(to: At, sign: Ordering) -> bool
+    ensures { (entry : Rational) → sign ≡ int_cmp entry.num (pos 0) → IsTrue result ↔ Helps to entry }
 {
     match to {
-        At::Lower => entry.num() > 0,
-        At::Upper => entry.num() < 0,
+        At::Lower => sign.is_gt(),
+        At::Upper => sign.is_lt(),
         At::Zero | At::Basic => false,
     }
 }
 
-/// Whether it comes nearer where the column falls.
-pub fn harms(to: At, entry: &Frac) -> bool
-    ensures { IsTrue result ↔ Harms to entry.now }
+/// Whether it does where it falls.
+#[tactic(auto, using(crate::proofs::EntrySigns::is_above, crate::proofs::EntrySigns::is_below))]
+pub fn harms(to: At, sign: Ordering) -> bool
+    ensures { (entry : Rational) → sign ≡ int_cmp entry.num (pos 0) → IsTrue result ↔ Harms to entry }
 {
     match to {
-        At::Lower => entry.num() < 0,
-        At::Upper => entry.num() > 0,
+        At::Lower => sign.is_lt(),
+        At::Upper => sign.is_gt(),
         At::Zero | At::Basic => false,
-    }
-}
-
-/// Whether a column that stands at `at` can move the way in which it helps one that leaves to `to`.
-pub fn can_move(at: At, to: At, entry: &Frac) -> bool
-    ensures { IsTrue result ↔ CanMove at to entry.now }
-{
-    match at {
-        At::Lower => helps(to, entry),
-        At::Upper => harms(to, entry),
-        At::Zero => !entry.is_zero(),
-        At::Basic => false,
     }
 }
 

@@ -10,7 +10,7 @@ use Rattle.um_model.specs.Values.{DeckValue, ColumnValue}
 use Rattle.um_model.specs.WellFormed.{IsDeck, IsRow}
 use Rattle.um_model.specs.Boxes.{BoxValue, IsVoid, ends_of}
 use Rattle.um_model.specs.declared.deck.Row.{Row}
-use Rattle.um_deck.proofs.FirstDeckLemmas.{all_at}
+use Rattle.um_deck.proofs.ListParts.{all_at}
 use Rattle.um_lp.specs.Boards.{AreOrdered}
 use Rattle.um_deck.specs.Decks.{IsDeckNow}
 use Rattle.um_lp.specs.declared.relaxation.Relaxation.{Relaxation}

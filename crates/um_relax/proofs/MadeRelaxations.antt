@@ -9,8 +9,8 @@ use Rattle.um_model.specs.Values.{DeckValue, ColumnValue, plain_column}
 use Rattle.um_model.specs.WellFormed.{IsDeck, IsColumn}
 use Rattle.um_model.specs.declared.deck.Column.{Column}
 use Rattle.um_model.specs.declared.deck.Row.{Row}
-use Rattle.um_deck.proofs.FirstDeckLemmas.{AllPairs-map}
-use Rattle.um_deck.proofs.LoopSteps.{All-of_map}
+use Rattle.um_deck.proofs.ListParts.{AllPairs-map}
+use Rattle.um_deck.proofs.ListParts.{All-of_map}
 use Rattle.um_lp.specs.States.{ColumnData, Frame, width}
 use Rattle.um_lp.specs.Relaxations.{columns_of, frame_of, AreTerms, IsRelaxation}
 use Rattle.um_lp.specs.declared.relaxation.Term.{Term}

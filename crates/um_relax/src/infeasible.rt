@@ -114,7 +114,7 @@ fn signed(to: At, entry: &Frac) -> Frac
     requires not_zero { entry.now ≢ whole (pos 0) }
     ensures { IsSigned to entry.now result }
 {
-    if harms(to, entry) {
+    if harms(to, entry.num().cmp(&0)) {
         *entry
     } else {
         entry.neg()

@@ -1,5 +1,5 @@
 -- The first sheet of a board.
-use Rattle.std.proofs.Common.{◌≡◌, ℕ, ◌<◌, ℤ, pos, List, [], length, arith, ◌∙◌, ap, Some}
+use Rattle.std.proofs.Common.{◌≡◌, pos, List, [], length, arith, ◌∙◌, ap, Some}
 use Rattle.std.specs.Prelude.{replicate}
 use Rattle.std.proofs.lemmas.List.{length-replicate}
 use Rattle.std.proofs.lemmas.List.Elements.{All-from_get_or}

@@ -1,5 +1,5 @@
 -- An act is refused only where the state before it, or the one to which it leads, is wide.
-use Rattle.std.proofs.Common.{◌≡◌, ◌≢◌, ℕ, ◌<◌, ℤ, pos, List, [], ◌∷◌, length, slice_index_or, arith, sym, ap, ◌∙◌, subst, refl, inl, inr, Result, Ok, Err, IfErr, Option, false, ◌||◌, cond}
+use Rattle.std.proofs.Common.{◌≡◌, ◌≢◌, ℕ, ◌<◌, ℤ, pos, List, [], ◌∷◌, length, slice_index_or, arith, sym, ap, ◌∙◌, subst, refl, inl, inr, Result, Ok, Err, IfErr, Option, ◌||◌, cond}
 use Rattle.std.specs.Result.{IsOk}
 use Rattle.std.proofs.lemmas.Bool.{cases_Bool}
 use Rattle.std.proofs.lemmas.List.Elements.{All-get_or}
@@ -19,6 +19,7 @@ use Rattle.um_lp.specs.declared.board.At.TheVariants.{Basic}
 use Rattle.um_laws.proofs.RationalEquations.{by_ring}
 use Rattle.um_lp.proofs.Acts.{HasPivotedParts, HasReboxedParts}
 use Rattle.um_lp.proofs.NextStates.{after_pivot, pivoted_parts, pivot_leads, after_rebox, reboxed_parts, rebox_leads, stands_once}
+use Rattle.um_lp.proofs.RefusedReads.{not_wide}
 use Rattle.um_lp.proofs.Rows.{same_or_not, by_row}
 use Rattle.um_num.specs.Sizes.{IsSmall}
 use Rattle.um_lp.proofs.NarrowNumbers.{neither}
@@ -30,10 +31,6 @@ use Rattle.um_tableau.specs.Sheets.{state_of, basic_at, ends_at, standing_at, ri
 use Rattle.um_tableau.specs.Stands.{Stands, board_of}
 use Rattle.um_tableau.specs.declared.sheet.Sheet.{Sheet}
 use Rattle.um_lines.proofs.Shorts.{never}
-
-not_wide : (s : State) → is_wide s ≡ false → AreNarrow (numbers_of s)
-unfolding is_wide
-not_wide s h = h
 
 -- the leaving column rises to its end
 reaches : (v e end : Rational) → e ≢ whole (pos 0) → add v (mul e (mul (add end (neg v)) (inverse e))) ≡ end

@@ -16,9 +16,7 @@ mod rebox;
 mod rows;
 mod sheet;
 mod start;
-pub mod tableau;
-#[cfg(test)]
-mod tests;
+mod tableau;
 mod values;
 
 pub use tableau::Tableau;

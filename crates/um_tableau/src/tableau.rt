@@ -11,6 +11,7 @@ use crate::given::Given;
 use crate::making::{first_sheet, first_spare};
 use crate::sheet::{Sheet, Spare};
 use std::alloc::Global;
+use std::cmp::Ordering;
 use um_lp::{At, Board, Relaxation};
 use um_num::{Frac, Memory, Wide};
 
@@ -77,6 +78,10 @@ impl Board for Tableau {
 
     fn entry(&self, row: u32, column: u32) -> Result<Frac, Wide> {
         Ok(self.sheet.entries[row as usize].get(column as usize))
+    }
+
+    fn sign(&self, row: u32, column: u32) -> Result<Ordering, Wide> {
+        Ok(self.sheet.entries[row as usize].sign(column as usize))
     }
 
     fn cost(&self, column: u32) -> Result<Frac, Wide> {

@@ -1,4 +1,4 @@
-use Rattle.std.proofs.Common.{◌≡◌, ◌≢◌, ℕ, ◌<◌, List, length, arith, sym, ◌∙◌, ap, subst}
+use Rattle.std.proofs.Common.{List, length, arith, sym, ◌∙◌, ap, subst}
 use Rattle.std.proofs.lemmas.List.{with_items_is}
 use Rattle.um_laws.specs.Rational.{Rational}
 use Rattle.um_lp.specs.Basis.{pivot_line}
