@@ -7,8 +7,6 @@
 
 mod answer;
 mod columns;
-#[cfg(test)]
-mod tests;
 mod verdict;
 mod work;
 

@@ -1,7 +1,11 @@
 -- What was put one behind the other: bytes, words and lines.
-use Rattle.std.proofs.Common.{◌≡◌, ℕ, zero, suc, ◌+◌, ◌<◌, List, [], ◌∷◌, ◌++◌, length, map, take, get_or, Result, Ok, Err, refl, sym, ap, ◌∙◌, arith, append_assoc, append-nil}
-use Rattle.std.specs.Prelude.{OnOk}
-use Rattle.um_text.specs.Texts.{behind_blanks, line_rest, line_text, lines_text}
+use Rattle.std.proofs.Common.{◌≡◌, ℕ, ℤ, zero, suc, ◌+◌, ◌<◌, List, [], ◌∷◌, ◌++◌, length, map, take, drop, drop-cons, add-one, get_or, Result, Ok, Err, false, nat_eq, decimal, refl, sym, ap, ◌∙◌, arith, append_assoc, append-nil}
+use Rattle.std.proofs.lemmas.List.{map-append, take-append-drop}
+use Rattle.std.specs.Fmt.{signed_decimal}
+use Rattle.std.specs.Prelude.{OnOk, OnErr}
+use Rattle.um_laws.specs.Rational.{Rational}
+use Rattle.um_text.specs.NumberWords.{fraction_word}
+use Rattle.um_text.specs.Texts.{GoesOn, behind_blanks, line_rest, line_text, lines_text}
 
 -- ---- one put after the other
 
@@ -14,6 +18,41 @@ next_put t u v a b c e f g = joined t u v a b e f ∙ ap (λ l. t ++ l) (sym g)
 pub on_ok : {T E P Q : Type 0} (r : Result T E) → OnOk r P → (P → Q) → OnOk r Q
 on_ok (Ok x) h f = f h
 on_ok (Err e) h f = tt
+
+-- ---- what stood before is still the front, and a front of what was due stands behind it
+
+pub stays : {t due : List ℕ} → GoesOn t due t
+stays {t} {due} = record { front = []; rest = due; parts = refl; behind = sym (append-nil t) }
+
+-- some of a list was put
+pub some_put : (t u a : List ℕ) (k : ℕ) → u ≡ t ++ take k a → GoesOn t a u
+some_put t u a k e = record { front = take k a; rest = drop k a; parts = sym (take-append-drop k a); behind = e }
+
+-- what was due is written otherwise
+pub due_is : {t a b u : List ℕ} → a ≡ b → GoesOn t a u → GoesOn t b u
+due_is e g = record { front = g.front; rest = g.rest; parts = sym e ∙ g.parts; behind = g.behind }
+
+-- the refusal came in the first part
+pub stops_early : {t a u : List ℕ} (b : List ℕ) → GoesOn t a u → GoesOn t (a ++ b) u
+stops_early b g = record { front = g.front; rest = g.rest ++ b; parts = ap (λ l. l ++ b) g.parts ∙ append_assoc g.front g.rest b; behind = g.behind }
+
+-- the refusal came behind the first part
+pub stops_later : {t u b v : List ℕ} (a : List ℕ) → u ≡ t ++ a → GoesOn u b v → GoesOn t (a ++ b) v
+stops_later {t} {u} {b} {v} a e g = record {
+  front = a ++ g.front;
+  rest = g.rest;
+  parts = ap (λ l. a ++ l) g.parts ∙ sym (append_assoc a g.front g.rest);
+  behind = joined t u v a g.front e g.behind;
+}
+
+-- what holds anyhow holds after a refusal
+pub refused : {T E P : Type 0} (r : Result T E) → P → OnErr r P
+refused (Ok x) p = tt
+refused (Err e) p = p
+
+-- a fraction that is no whole number
+pub two_parts : (x : Rational) (num : ℤ) → num ≡ x.num → nat_eq x.den 1 ≡ false → signed_decimal num ++ 47 ∷ decimal x.den ≡ fraction_word x
+two_parts x num is more = rw more (ap (λ z. signed_decimal z ++ 47 ∷ decimal x.den) is)
 
 -- ---- lines
 
@@ -55,6 +94,29 @@ more_words word (y ∷ ys) (suc k) x d h e =
     ap (λ n. behind_blanks (map word (take n (y ∷ ys)))) (step k)
     ∙ ap (λ (l : List ℕ). 32 ∷ (word y ++ l)) (more_words word ys k x d (omega arith) e)
     ∙ ap (λ (l : List ℕ). 32 ∷ l) (sym (append_assoc (word y) (behind_blanks (map word (take k ys))) (32 ∷ word x)))
+
+-- one word less is left
+pub one_word_less : {X : Type 0} (word : X → List ℕ) (xs : List X) (k : ℕ) (d : X) (t u : List ℕ) → k < length xs → u ≡ t ++ 32 ∷ word (get_or xs k d) → u ++ behind_blanks (map word (drop (k + 1) xs)) ≡ t ++ behind_blanks (map word (drop k xs))
+one_word_less word xs k d t u h e =
+    let cut : drop k xs ≡ get_or xs k d ∷ drop (k + 1) xs = rw add-one (drop-cons xs k d h) in
+    ap (λ l. l ++ behind_blanks (map word (drop (k + 1) xs))) e ∙ append_assoc t (32 ∷ word (get_or xs k d)) (behind_blanks (map word (drop (k + 1) xs))) ∙ ap (λ l. t ++ behind_blanks (map word l)) (sym cut)
+
+-- one word more is written
+pub one_word_more : {X : Type 0} (word : X → List ℕ) (xs : List X) (k : ℕ) (d : X) (t u v : List ℕ) → k < length xs → u ≡ t ++ behind_blanks (map word (take k xs)) → v ≡ u ++ 32 ∷ word (get_or xs k d) → v ≡ t ++ behind_blanks (map word (take (k + 1) xs))
+one_word_more word xs k d t u v h e f = next_put t u v _ _ _ e f (more_words word xs k (get_or xs k d) d h refl)
+
+blanks_append : (xs ys : List (List ℕ)) → behind_blanks (xs ++ ys) ≡ behind_blanks xs ++ behind_blanks ys
+blanks_append [] ys = refl
+blanks_append (x ∷ xs) ys = ap (λ (l : List ℕ). 32 ∷ l) (ap (λ l. x ++ l) (blanks_append xs ys) ∙ sym (append_assoc x (behind_blanks xs) (behind_blanks ys)))
+
+-- one of the words was refused
+pub word_refused : {X : Type 0} (word : X → List ℕ) (xs : List X) (k : ℕ) (d : X) (t u v : List ℕ) → k < length xs → u ≡ t ++ behind_blanks (map word (take k xs)) → GoesOn u (32 ∷ word (get_or xs k d)) v → GoesOn t (behind_blanks (map word xs)) v
+word_refused word xs k d t u v h e g =
+    let cut : drop k xs ≡ get_or xs k d ∷ drop (k + 1) xs = rw add-one (drop-cons xs k d h) in
+    let all : behind_blanks (map word (take k xs)) ++ behind_blanks (map word (get_or xs k d ∷ drop (k + 1) xs)) ≡ behind_blanks (map word xs)
+    = sym (blanks_append (map word (take k xs)) (map word (get_or xs k d ∷ drop (k + 1) xs)))
+    ∙ ap behind_blanks (sym (map-append word (take k xs) (get_or xs k d ∷ drop (k + 1) xs)) ∙ ap (map word) (ap (λ l. take k xs ++ l) (sym cut) ∙ take-append-drop k xs)) in
+    due_is all (stops_later (behind_blanks (map word (take k xs))) e (stops_early (behind_blanks (map word (drop (k + 1) xs))) g))
 
 -- one line more
 pub more_lines : {X : Type 0} (words : X → List (List ℕ)) (xs : List X) (k : ℕ) (x d : X) → k < length xs → x ≡ get_or xs k d → lines_text (map words (take (k + 1) xs)) ≡ lines_text (map words (take k xs)) ++ line_text (words x)

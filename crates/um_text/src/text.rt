@@ -1,16 +1,17 @@
 //! A text that grows, word by word.
 
-ghost use Rattle.std.specs.Prelude.{◌≡◌, ◌∷◌, ◌++◌, [], map, decimal, OnOk};
+ghost use Rattle.std.specs.Prelude.{◌≡◌, ◌∷◌, ◌++◌, [], map, decimal, OnOk, OnErr};
 ghost use Rattle.std.specs.Fmt.{signed_decimal};
 ghost use Rattle.um_text.specs.NumberWords.{fraction_word, fraction_or_none};
-ghost use Rattle.um_text.specs.Texts.{behind_blanks, line_text};
+ghost use Rattle.um_text.specs.Texts.{GoesOn, behind_blanks, line_text};
 
 use crate::written::write_whole;
 use std::alloc::Global;
 use std::marker::Model;
 use um_num::{Frac, List, Memory};
 
-/// The bytes that were put so far. After a refusal a part of what was due may stand behind them.
+/// The bytes that were put so far. After a refusal what stood before is still its front, and behind it stands a front
+/// of what was due.
 #[derive(Drop)]
 pub struct Text {
     alloc: Global,
@@ -45,7 +46,8 @@ impl Text {
 
     /// Puts these bytes behind the others.
     pub fn put(&mut self, bytes: &[u8]) -> Result<(), Memory>
-        ensures { OnOk result (self.new ≡ self.old ++ bytes.now) }
+        ensures ok { OnOk result (self.new ≡ self.old ++ bytes.now) }
+        ensures kept { OnErr result (GoesOn self.old bytes.now self.new) }
     {
         for byte in bytes {
             self.bytes.push(*byte)?;
@@ -55,14 +57,16 @@ impl Text {
 
     /// Puts a line end.
     pub fn end_line(&mut self) -> Result<(), Memory>
-        ensures { OnOk result (self.new ≡ self.old ++ 10 ∷ []) }
+        ensures ok { OnOk result (self.new ≡ self.old ++ 10 ∷ []) }
+        ensures kept { OnErr result (GoesOn self.old (10 ∷ []) self.new) }
     {
         self.put(b"\n")
     }
 
     /// Puts the numeral of a number.
     pub fn whole(&mut self, number: i128) -> Result<(), Memory>
-        ensures { OnOk result (self.new ≡ self.old ++ signed_decimal number) }
+        ensures ok { OnOk result (self.new ≡ self.old ++ signed_decimal number) }
+        ensures kept { OnErr result (GoesOn self.old (signed_decimal number) self.new) }
     {
         let numeral = write_whole(self.alloc, number)?;
         self.put(numeral.as_slice())
@@ -70,7 +74,8 @@ impl Text {
 
     /// Puts the numeral of a number from 0 on.
     pub fn count(&mut self, number: u128) -> Result<(), Memory>
-        ensures { OnOk result (self.new ≡ self.old ++ decimal number) }
+        ensures ok { OnOk result (self.new ≡ self.old ++ decimal number) }
+        ensures kept { OnErr result (GoesOn self.old (decimal number) self.new) }
     {
         let numeral = format!(in self.alloc; "{number}")?;
         self.put(numeral.as_bytes())
@@ -78,7 +83,8 @@ impl Text {
 
     /// Puts a fraction: a whole number, or its two parts with a slash between.
     pub fn fraction(&mut self, fraction: &Frac) -> Result<(), Memory>
-        ensures { OnOk result (self.new ≡ self.old ++ fraction_word fraction.now) }
+        ensures ok { OnOk result (self.new ≡ self.old ++ fraction_word fraction.now) }
+        ensures kept { OnErr result (GoesOn self.old (fraction_word fraction.now) self.new) }
     {
         let (num, den) = (fraction.num(), fraction.den());
         if den == 1 {
@@ -91,7 +97,8 @@ impl Text {
 
     /// Puts a fraction, or `none`.
     pub fn fraction_or_none(&mut self, fraction: Option<Frac>) -> Result<(), Memory>
-        ensures { OnOk result (self.new ≡ self.old ++ fraction_or_none fraction) }
+        ensures ok { OnOk result (self.new ≡ self.old ++ fraction_or_none fraction) }
+        ensures kept { OnErr result (GoesOn self.old (fraction_or_none fraction) self.new) }
     {
         match fraction {
             None => self.put(b"none"),
@@ -101,7 +108,8 @@ impl Text {
 
     /// Puts a word behind a blank.
     pub fn word(&mut self, word: &[u8]) -> Result<(), Memory>
-        ensures { OnOk result (self.new ≡ self.old ++ 32 ∷ word.now) }
+        ensures ok { OnOk result (self.new ≡ self.old ++ 32 ∷ word.now) }
+        ensures kept { OnErr result (GoesOn self.old (32 ∷ word.now) self.new) }
     {
         self.put(b" ")?;
         self.put(word)
@@ -109,7 +117,8 @@ impl Text {
 
     /// Puts the numeral of a number behind a blank.
     pub fn whole_word(&mut self, number: i128) -> Result<(), Memory>
-        ensures { OnOk result (self.new ≡ self.old ++ 32 ∷ signed_decimal number) }
+        ensures ok { OnOk result (self.new ≡ self.old ++ 32 ∷ signed_decimal number) }
+        ensures kept { OnErr result (GoesOn self.old (32 ∷ signed_decimal number) self.new) }
     {
         self.put(b" ")?;
         self.whole(number)
@@ -117,7 +126,8 @@ impl Text {
 
     /// Puts the numeral of a number from 0 on behind a blank.
     pub fn count_word(&mut self, number: u128) -> Result<(), Memory>
-        ensures { OnOk result (self.new ≡ self.old ++ 32 ∷ decimal number) }
+        ensures ok { OnOk result (self.new ≡ self.old ++ 32 ∷ decimal number) }
+        ensures kept { OnErr result (GoesOn self.old (32 ∷ decimal number) self.new) }
     {
         self.put(b" ")?;
         self.count(number)
@@ -125,7 +135,8 @@ impl Text {
 
     /// Puts words, each behind a blank.
     pub fn words(&mut self, words: &[&[u8]]) -> Result<(), Memory>
-        ensures { OnOk result (self.new ≡ self.old ++ behind_blanks (map (λ word. word.now) words.now)) }
+        ensures ok { OnOk result (self.new ≡ self.old ++ behind_blanks (map (λ word. word.now) words.now)) }
+        ensures kept { OnErr result (GoesOn self.old (behind_blanks (map (λ word. word.now) words.now)) self.new) }
     {
         for word in words {
             self.word(word)?;
@@ -135,7 +146,8 @@ impl Text {
 
     /// Puts a line of words, of which this is the first.
     pub fn line(&mut self, first: &[u8], others: &[&[u8]]) -> Result<(), Memory>
-        ensures { OnOk result (self.new ≡ self.old ++ line_text (first.now ∷ map (λ word. word.now) others.now)) }
+        ensures ok { OnOk result (self.new ≡ self.old ++ line_text (first.now ∷ map (λ word. word.now) others.now)) }
+        ensures kept { OnErr result (GoesOn self.old (line_text (first.now ∷ map (λ word. word.now) others.now)) self.new) }
     {
         self.put(first)?;
         self.words(others)?;

@@ -3,4 +3,4 @@ use Rattle.um_treetext.proofs.Written.{node_line}
 use Rattle.um_treetext.proofs.nodes.put_node.Goals as goal
 
 pub returns : goal.returns
-returns c = on_ok c.end_line.result c.end_line.ensures (λ e. node_line _ _ _ _ c.args.node.now.solved _ c.in_ok-put_solved.ensures c.in_ok-put_what.ensures e)
+returns c = on_ok c.end_line.result c.end_line.ensures.ok (λ e. node_line _ _ _ _ c.args.node.now.solved _ c.in_ok-put_solved.ensures c.in_ok-put_what.ensures e)

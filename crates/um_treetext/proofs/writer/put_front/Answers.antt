@@ -4,4 +4,4 @@ use Rattle.um_treetext.proofs.Written.{front_put}
 use Rattle.um_treetext.proofs.writer.put_front.Goals as goal
 
 pub returns : goal.returns
-returns c = on_ok c.put_why.result c.put_why.ensures (λ e. front_put c.args.deck.now (plain_answer c.args.answer.now) _ _ _ _ _ _ c.in_ok-put.ensures c.in_ok-put_deck.ensures c.in_ok-put_tolerance.ensures (rw c.kind_word.ensures at c.in_ok-line.ensures) e)
+returns c = on_ok c.put_why.result c.put_why.ensures (λ e. front_put c.args.deck.now (plain_answer c.args.answer.now) _ _ _ _ _ _ c.in_ok-put.ensures.ok c.in_ok-put_deck.ensures c.in_ok-put_tolerance.ensures (rw c.kind_word.ensures at c.in_ok-line.ensures.ok) e)

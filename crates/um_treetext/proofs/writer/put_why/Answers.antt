@@ -4,4 +4,4 @@ use Rattle.um_treetext.specs.TreeText.{why_words}
 use Rattle.um_treetext.proofs.writer.put_why.Goals as goal
 
 pub returns : goal.returns
-returns c = on_ok c.end_line.result c.end_line.ensures (λ e. whole_line _ _ _ _ (codes "WHY") (why_words c.args.why) c.in_ok-put.ensures c.in_ok-put_cause.ensures e)
+returns c = on_ok c.end_line.result c.end_line.ensures.ok (λ e. whole_line _ _ _ _ (codes "WHY") (why_words c.args.why) c.in_ok-put.ensures.ok c.in_ok-put_cause.ensures e)
