@@ -62,7 +62,7 @@ plain_answer a = record {
   tree = map plain_node a.tree;
 }
 
--- the kind of an answer whose search stopped for this: Limit at its budget or at a limit of its grid, and Overflow where a number left its range
+-- the kind of an answer whose search stopped for this: Limit at its budget or at a limit of its grid, and Overflow where a number became too large
 abbrev pub kind_of_stop : Why → AnswerKind
 kind_of_stop why.Nodes = Limit
 kind_of_stop why.Pivots = Limit

@@ -1,5 +1,5 @@
 -- The answers of one node are accepted.
-use Rattle.std.proofs.Common.{◌≡◌, ◌∙◌, ℕ, ◌-◌, ◌+◌, ◌<◌, ◌^◌, zero, suc, ℤ, pos, ◌≤ℤ◌, ◌<ℤ◌, [], ◌∷◌, Option, Some, None, refl, sym, ap, subst, arith, inl, inr}
+use Rattle.std.proofs.Common.{◌≡◌, ◌∙◌, ℕ, ◌^◌, zero, suc, ℤ, pos, ◌<ℤ◌, [], ◌∷◌, Option, Some, None, refl, sym, ap, subst, arith, inl, inr}
 use Rattle.std.specs.Prelude.{All, IsSomeAnd}
 use Rattle.std.proofs.lemmas.Int.{ints}
 use Rattle.um_laws.specs.Rational.{Rational}
@@ -14,8 +14,6 @@ use Rattle.um_model.specs.LeafValue.{leaf_value, leaf_bound, Reaches, Empties}
 use Rattle.um_model.specs.Accepted.{ToleranceHolds, IsSmallPoint, SignHolds, IsEnded, bound_in, IsBoundOf, IsLeast, IsAtMost, IsAccepted}
 use Rattle.um_multipliers.specs.Sizes.{AreBelow}
 use Rattle.um_model.specs.declared.answer.AnswerKind.TheVariants.{Optimal, Infeasible as HasNone}
-use Rattle.um_model.specs.declared.answer.Why.{Why}
-use Rattle.um_model.specs.declared.answer.Why.TheVariants as why
 use Rattle.um_model.specs.declared.leaf.Leaf.TheVariants.{Value}
 use Rattle.um_model.specs.declared.tree.Solved.{Solved}
 use Rattle.um_soundness.proofs.Objectives.{objective-law, bound_reaches}
@@ -24,12 +22,13 @@ use Rattle.um_point.specs.SmallPoints.{IsSmallPoint as IsSmall}
 use Rattle.um_lp.specs.States.{State}
 use Rattle.um_lp.proofs.Denominators.{denominator_positive}
 use Rattle.um_duality.specs.Laws.{IsOnBox}
-use Rattle.um_duality.specs.Readings.{multipliers, vertex, slack_costs}
+use Rattle.um_duality.specs.Readings.{multipliers, slack_costs}
 use Rattle.um_duality.proofs.FeasibleVertex.{vertex-law}
 use Rattle.um_duality.proofs.StrongDuality.{strong-duality-law}
 use Rattle.um_duality.proofs.NoPoint.{farkas-law}
 use Rattle.um_search.specs.Conditions.{IsSearched}
 use Rattle.um_search.specs.Roots.{IsRun, AtVertex, WithoutPoint}
+use Rattle.um_search.proofs.SearchedColumns.{each_continuous}
 use Rattle.um_search.proofs.RootBoxes.{root_not_void}
 use Rattle.um_search.proofs.Runs.{run_stands}
 
@@ -69,7 +68,7 @@ pub record Meets (d : DeckValue) (p : PointValue) (y : MultipliersValue) : Type 
 pub meets : (d : DeckValue) (pivots : ℕ) (p : PointValue) (y : MultipliersValue) → IsDeck d → IsSearched d → AtVertex d pivots p y → Meets d p y
 meets d pivots p y formed searched h =
     let on = on_box d pivots h.state searched.no_sets_or_arcs h.run in
-    let feasible = vertex-law d h.state on h.ended searched.continuous in
+    let feasible = vertex-law d h.state on h.ended (each_continuous d searched) in
     let (value, value_is, bound_is) = strong-duality-law d (root d) h.state on in
     record {
       feasible = subst (Feasible d) (sym h.point) feasible;
@@ -102,7 +101,7 @@ module _ (d : DeckValue) (p : PointValue) (y : MultipliersValue) (solved : Optio
   optimal_accepted = inl (
     tolerance_holds d searched.no_sets_or_arcs.arcs,
     inl (
-      record { reason = refl; fields = record { point = refl; objective = refl; bound = refl; ray = refl } },
+      record { cause = refl; fields = record { point = refl; objective = refl; bound = refl; ray = refl } },
       inl (
         record { point = point; ray = tt },
         inl (
@@ -132,7 +131,7 @@ infeasible_accepted d y solved formed searched empties below =
     inl (
       tolerance_holds d searched.no_sets_or_arcs.arcs,
       inl (
-        record { reason = refl; fields = record { point = refl; objective = refl; bound = refl; ray = refl } },
+        record { cause = refl; fields = record { point = refl; objective = refl; bound = refl; ray = refl } },
         inl (
           record { point = tt; ray = tt },
           inl (

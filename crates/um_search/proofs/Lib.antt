@@ -6,3 +6,4 @@ pub mod Prices
 pub mod Accepting
 pub mod Telling
 pub mod Stopping
+pub mod SearchedColumns

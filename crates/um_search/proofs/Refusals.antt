@@ -4,7 +4,6 @@ use Rattle.std.specs.Prelude.{IfOk, IsErr}
 use Rattle.um_num.specs.declared.Memory.{Memory}
 use Rattle.um_model.specs.Values.{DeckValue}
 use Rattle.um_multipliers.specs.PlainMultipliers.{plain_multipliers}
-use Rattle.um_model.specs.declared.answer.Why.{Why}
 use Rattle.um_model.specs.declared.answer.Why.TheVariants as why
 use Rattle.um_multipliers.specs.declared.multipliers.Multipliers.{Multipliers}
 use Rattle.um_lp.specs.States.{State}

@@ -1,5 +1,5 @@
 -- The answer of a search that stopped at its root.
-use Rattle.std.proofs.Common.{◌≡◌, ◌∙◌, ℕ, ◌<◌, ◌≤◌, ◌^◌, ℤ, pos, ◌≤ℤ◌, ◌<ℤ◌, List, [], ◌∷◌, length, Option, Some, None, refl, sym, subst, arith, inl, inr, lit<}
+use Rattle.std.proofs.Common.{◌≡◌, ℕ, ◌^◌, pos, ◌≤ℤ◌, ◌<ℤ◌, List, [], ◌∷◌, length, Option, Some, None, refl, sym, subst, arith, inl, inr, lit<}
 use Rattle.std.specs.Prelude.{All}
 use Rattle.std.proofs.lemmas.Int.{ints}
 use Rattle.um_laws.specs.Rational.{Rational}
@@ -94,7 +94,7 @@ module _ (d : DeckValue) (pivots most : ℕ) (y : MultipliersValue) (formed : Is
   limit_accepted h = inl (
     tolerance_holds d searched.no_sets_or_arcs.arcs,
     inl (
-      record { reason = refl; fields = record { objective = ((λ x. x), (λ x. x)); ray = refl } },
+      record { cause = refl; fields = record { objective = ((λ x. x), (λ x. x)); ray = refl } },
       inl (
         record { point = tt; ray = tt },
         inl (
@@ -115,7 +115,7 @@ module _ (d : DeckValue) (pivots most : ℕ) (y : MultipliersValue) (formed : Is
   overflow_accepted w other h = inl (
     tolerance_holds d searched.no_sets_or_arcs.arcs,
     inl (
-      record { reason = other; fields = record { objective = ((λ x. x), (λ x. x)); ray = refl } },
+      record { cause = other; fields = record { objective = ((λ x. x), (λ x. x)); ray = refl } },
       inl (
         record { point = tt; ray = tt },
         inl (
@@ -160,7 +160,7 @@ module _ (d : DeckValue) (pivots most : ℕ) (y : MultipliersValue) (formed : Is
 
   tells : (w : Why) (k : AnswerKind) (bound : Option Rational) (tree : List NodeValue) → StoppedBy d pivots most w y → bound ≡ own_bound → tree ≡ leaf → IsStoppedAnswer d pivots most (stopped_answer k w bound tree)
   tells w k bound tree h is node = record {
-    reason = subst (λ (ns : List NodeValue). IsOneNode pivots (IsOpenBy (λ m. StoppedBy d pivots most w m × (bound ≡ bound_in d m.y0 (leaf_value d (root d) m)))) ns) (sym node) (refl, (h, is));
+    cause = subst (λ (ns : List NodeValue). IsOneNode pivots (IsOpenBy (λ m. StoppedBy d pivots most w m × (bound ≡ bound_in d m.y0 (leaf_value d (root d) m)))) ns) (sym node) (refl, (h, is));
     point = refl;
     objective = refl;
   }

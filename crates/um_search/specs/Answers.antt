@@ -36,21 +36,21 @@ IsOpenBy P other = ⊥
 
 -- Optimal: the point is the vertex at which the run ended, with its objective, which is the bound too
 pub record IsOptimalAnswer (d : DeckValue) (pivots : ℕ) (a : AnswerValue) : Type 0 where
-  pub reason : a.why ≡ None
+  pub cause : a.why ≡ None
   pub point : IsSomeAnd a.point (λ (p : PointValue). (a.objective ≡ Some (objective d p)) × IsOneNode pivots (IsBoundedBy (AtVertex d pivots p)) a.tree)
   pub bound : a.bound ≡ a.objective
 
 -- Infeasible: the run ended without a point
 pub record IsInfeasibleAnswer (d : DeckValue) (pivots : ℕ) (a : AnswerValue) : Type 0 where
-  pub reason : a.why ≡ None
+  pub cause : a.why ≡ None
   pub point : a.point ≡ None
   pub objective : a.objective ≡ None
   pub bound : a.bound ≡ None
   pub tree : IsOneNode pivots (IsEmptyBy (WithoutPoint d pivots)) a.tree
 
--- the search stopped for its reason, with an open leaf, whose bound is that of the answer
+-- the search stopped for its cause, with an open leaf, whose bound is that of the answer
 pub record IsStoppedAnswer (d : DeckValue) (pivots most : ℕ) (a : AnswerValue) : Type 0 where
-  pub reason : IsSomeAnd a.why (λ w. IsOneNode pivots (IsOpenBy (λ y. StoppedBy d pivots most w y × (a.bound ≡ bound_in d y.y0 (leaf_value d (root d) y)))) a.tree)
+  pub cause : IsSomeAnd a.why (λ w. IsOneNode pivots (IsOpenBy (λ y. StoppedBy d pivots most w y × (a.bound ≡ bound_in d y.y0 (leaf_value d (root d) y)))) a.tree)
   pub point : a.point ≡ None
   pub objective : a.objective ≡ None
 

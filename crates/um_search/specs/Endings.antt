@@ -20,8 +20,8 @@ EndedAs d pivots most (ending.Vertex point y) = AtVertex d pivots (plain_point p
 EndedAs d pivots most (ending.Empty y) = WithoutPoint d pivots (plain_multipliers y) × AreBelow (2 ^ 40) (plain_multipliers y)
 EndedAs d pivots most (ending.Stopped why y) = StoppedBy d pivots most why (plain_multipliers y)
 
--- a reading was refused: with a large number for the given reason, with an operation out of range as a value, and without memory
+-- a reading was refused: with a large number for the given cause, with an operation out of range as a value, and without memory
 abbrev pub RefusedAs : Large → Why → ℕ → Multipliers → Result RootEnding Memory → Type 0
-RefusedAs large.Large reason step y result = result ≡ Ok (ending.Stopped reason y)
-RefusedAs (large.Wide w) reason step y result = result ≡ Ok (ending.Stopped (why.Value 1 step w) y)
-RefusedAs large.Memory reason step y result = IsErr result
+RefusedAs large.Large cause step y result = result ≡ Ok (ending.Stopped cause y)
+RefusedAs (large.Wide w) cause step y result = result ≡ Ok (ending.Stopped (why.Value 1 step w) y)
+RefusedAs large.Memory cause step y result = IsErr result

@@ -1,5 +1,5 @@
 -- The run of the dual simplex method on the root node.
-use Rattle.std.specs.Prelude.{◌≡◌, ℕ, ◌^◌, pos, [], ◌⊎◌, ◌<◌}
+use Rattle.std.specs.Prelude.{◌≡◌, ℕ, ◌^◌, pos, [], ◌⊎◌}
 use Rattle.um_num.specs.declared.exact.Wide.{Wide}
 use Rattle.um_model.specs.Values.{DeckValue, PointValue}
 use Rattle.um_multipliers.specs.PlainMultipliers.{MultipliersValue}
@@ -65,7 +65,7 @@ pub record OutOfPivots (d : DeckValue) (pivots most : ℕ) (y : MultipliersValue
   pub all : pivots ≡ most
   pub multipliers : y ≡ one_and_none
 
--- the step after so many pivots is not taken: an operation is out of range, where a number of the state is read or the step that is due is done, and that state is wide, or the one to which the step leads. Where a number is not read, it stays open whether a step is due
+-- the step after so many pivots is not taken: an operation is out of range, where a number of the state is read or the step that is due is done, and that state is wide, or the one to which the step leads. A number that is not read is the value of a basic column, which is then itself out of range, and it stays open whether a step is due; or the row that leaves is known, so that the run has not ended at a vertex, and a column that may enter for it, or whose entry in it is itself out of range, so that where the entries are in range the run has not ended without a point either
 pub record WideStep (d : DeckValue) (pivots number step : ℕ) (w : Wide) (y : MultipliersValue) : Type 0 where
   pub state : State
   pub run : IsRun d pivots state

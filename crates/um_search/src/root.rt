@@ -223,7 +223,7 @@ fn without_point<B: Board>(
     }
 }
 
-/// Where a reading is refused: a large number stops the search for this reason, and an operation out
+/// Where a reading is refused: a large number stops the search for this cause, and an operation out
 /// of range as a value.
 fn refused(large: Large, why: Why, step: u64, y: Multipliers) -> Result<RootEnding, Memory>
     ensures { RefusedAs large why step y result }

@@ -67,7 +67,7 @@ one_row_small y0 value a b = record { y0 = a; rows = All-cons (λ (p : Price). u
 
 half_fields : (tree : List NodeValue) → FieldsGo (half_answer tree)
 unfolding half_answer
-half_fields tree = record { reason = refl; fields = record { point = refl; objective = refl; bound = refl; ray = refl } }
+half_fields tree = record { cause = refl; fields = record { point = refl; objective = refl; bound = refl; ray = refl } }
 
 half_tolerance : ToleranceHolds half_deck (pos 0)
 unfolding half_deck
@@ -247,7 +247,7 @@ continuous_tolerance = record { without_arcs = λ e. refl; least = λ n. absurd 
 
 continuous_fields : FieldsGo continuous_answer
 unfolding continuous_answer
-continuous_fields = record { reason = refl; fields = record { point = refl; objective = refl; bound = refl; ray = refl } }
+continuous_fields = record { cause = refl; fields = record { point = refl; objective = refl; bound = refl; ray = refl } }
 
 continuous_bounded : BoundedHolds continuous_deck continuous_answer (root continuous_deck) (one_row (pos 1) (negsuc 0))
 unfolding continuous_answer

@@ -15,8 +15,8 @@ use Rattle.um_multipliers.specs.declared.multipliers.Price.{Price}
 use Rattle.um_model.specs.declared.leaf.Leaf.TheVariants.{Value, EndlessColumn, EndlessRow}
 
 -- ---- min -x - 2y; x + y <= 4; x in [0, 3], y in [0, 2]
-plain_deck : DeckValue
-plain_deck = record {
+linear_deck : DeckValue
+linear_deck = record {
   name = [];
   objective_name = [];
   maximise = false;
@@ -30,17 +30,17 @@ plain_deck = record {
 }
 
 -- the row gives -4000, and y gives -2000
-plain_value : leaf_value plain_deck (root plain_deck) (record { y0 = pos 1; rows = record { row = 0; value = negsuc 0 } ∷ [] }) ≡ Value (negsuc 5999)
-unfolding plain_deck leaf_value
-plain_value = refl
+linear_value : leaf_value linear_deck (root linear_deck) (record { y0 = pos 1; rows = record { row = 0; value = negsuc 0 } ∷ [] }) ≡ Value (negsuc 5999)
+unfolding linear_deck leaf_value
+linear_value = refl
 
-plain_objective : objective_times plain_deck (record { den = pos 1; parts = pos 2 ∷ pos 2 ∷ [] }) ≡ negsuc 5
-unfolding plain_deck leaf_value
-plain_objective = refl
+linear_objective : objective_times linear_deck (record { den = pos 1; parts = pos 2 ∷ pos 2 ∷ [] }) ≡ negsuc 5
+unfolding linear_deck leaf_value
+linear_objective = refl
 
 -- a multiplier of the wrong sign meets the side that is not there
-wrong_sign : leaf_value plain_deck (root plain_deck) (record { y0 = pos 1; rows = record { row = 0; value = pos 1 } ∷ [] }) ≡ EndlessRow 0
-unfolding plain_deck leaf_value
+wrong_sign : leaf_value linear_deck (root linear_deck) (record { y0 = pos 1; rows = record { row = 0; value = pos 1 } ∷ [] }) ≡ EndlessRow 0
+unfolding linear_deck leaf_value
 wrong_sign = refl
 
 -- ---- min -5x - 4y; 6x + 4y <= 24; x + 2y <= 6; x and y whole in [0, 10]

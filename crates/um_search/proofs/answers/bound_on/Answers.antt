@@ -1,4 +1,4 @@
-use Rattle.std.proofs.Common.{◌≡◌, sym, subst}
+use Rattle.std.proofs.Common.{sym, subst}
 use Rattle.um_box.specs.NodeBoxes.{NodeBoxValue}
 use Rattle.um_model.specs.Boxes.{IsVoid}
 use Rattle.um_search.proofs.RootBoxes.{root_not_void}

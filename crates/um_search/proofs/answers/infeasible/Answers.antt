@@ -1,4 +1,4 @@
-use Rattle.std.proofs.Common.{◌≡◌, refl, map, ap}
+use Rattle.std.proofs.Common.{refl, map, ap}
 use Rattle.um_model.specs.AnswerValues.{plain_node}
 use Rattle.um_multipliers.specs.PlainMultipliers.{plain_multipliers}
 use Rattle.um_soundness.proofs.AcceptedTrees.{accepted-is-right-law}
@@ -20,5 +20,5 @@ returns-clause-run c = record {
   ray = refl;
   pivots = c.args.pivots;
   within = c.requires.within;
-  answer = record { reason = refl; point = refl; objective = refl; bound = refl; tree = infeasible_tells c.args.deck.now c.args.pivots (plain_multipliers c.args.y) (map plain_node c.in_ok-one_node.field-0) c.requires.formed.formed c.requires.searched c.requires.multipliers c.requires.ending (ap (map plain_node) c.in_ok-one_node.ensures) };
+  answer = record { cause = refl; point = refl; objective = refl; bound = refl; tree = infeasible_tells c.args.deck.now c.args.pivots (plain_multipliers c.args.y) (map plain_node c.in_ok-one_node.field-0) c.requires.formed.formed c.requires.searched c.requires.multipliers c.requires.ending (ap (map plain_node) c.in_ok-one_node.ensures) };
 }

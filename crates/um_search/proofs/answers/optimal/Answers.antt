@@ -1,4 +1,4 @@
-use Rattle.std.proofs.Common.{◌≡◌, Some, refl, ap, map}
+use Rattle.std.proofs.Common.{Some, refl, ap, map}
 use Rattle.um_model.specs.AnswerValues.{plain_node}
 use Rattle.um_multipliers.specs.PlainMultipliers.{plain_multipliers}
 use Rattle.um_model.specs.Values.{plain_point}
@@ -25,5 +25,5 @@ returns-clause-run c = record {
   ray = refl;
   pivots = c.args.pivots;
   within = c.requires.within;
-  answer = record { reason = refl; point = (ap Some c.objective-objective.ensures, optimal_tells c.args.deck.now c.args.pivots (plain_multipliers c.args.y) (map plain_node c.in_ok-one_node.field-0) c.requires.formed.formed c.requires.searched c.requires.multipliers (plain_point c.args.point) c.requires.ending (ap (map plain_node) c.in_ok-one_node.ensures)); bound = refl };
+  answer = record { cause = refl; point = (ap Some c.objective-objective.ensures, optimal_tells c.args.deck.now c.args.pivots (plain_multipliers c.args.y) (map plain_node c.in_ok-one_node.field-0) c.requires.formed.formed c.requires.searched c.requires.multipliers (plain_point c.args.point) c.requires.ending (ap (map plain_node) c.in_ok-one_node.ensures)); bound = refl };
 }

@@ -1,4 +1,4 @@
-use Rattle.std.proofs.Common.{◌≡◌, refl, map, ap}
+use Rattle.std.proofs.Common.{refl, map, ap}
 use Rattle.um_multipliers.specs.PlainMultipliers.{plain_multipliers}
 use Rattle.um_model.specs.AnswerValues.{plain_node}
 use Rattle.um_soundness.proofs.AcceptedTrees.{accepted-is-right-law}

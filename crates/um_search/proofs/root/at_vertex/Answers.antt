@@ -1,4 +1,4 @@
-use Rattle.std.proofs.Common.{◌≡◌, ◌∙◌, sym}
+use Rattle.std.proofs.Common.{◌∙◌, sym}
 use Rattle.um_search.proofs.Runs.{run_stands}
 use Rattle.um_search.proofs.Refusals.{large_multipliers, large_vertex}
 use Rattle.um_search.proofs.root.at_vertex.Goals as goal

@@ -1,4 +1,4 @@
-use Rattle.std.proofs.Common.{◌≡◌, ◌-◌, refl, arith}
+use Rattle.std.proofs.Common.{◌-◌, refl, arith}
 use Rattle.um_search.proofs.Runs.{run_of}
 use Rattle.um_search.proofs.root.run_steps.Goals as goal
 

@@ -1,6 +1,7 @@
 use Rattle.std.proofs.Common.{◌≡◌, ◌-◌, arith, refl, sym, subst, inl}
 use Rattle.um_model.specs.Boxes.{BoxValue, IsVoid}
 use Rattle.um_relax.specs.Reboxings.{WantsFiniteEnds, StoppedBefore}
+use Rattle.um_search.proofs.SearchedColumns.{each_bounded}
 use Rattle.um_search.proofs.Starts.{start_wants}
 use Rattle.um_search.proofs.Runs.{ready_of}
 use Rattle.um_search.proofs.RootBoxes.{root_not_void}
@@ -13,7 +14,7 @@ pub rebox-requires-clause-wanted : goal.rebox-requires-clause-wanted
 rebox-requires-clause-wanted g c =
     let d = c.args.root.now.deck in
     let s = g.B.Board.state c.args.board.now in
-    subst (λ (b : BoxValue). WantsFiniteEnds d b s) (sym c.requires.root) (start_wants d s c.requires.searched.no_sets_or_arcs.sets c.requires.searched.bounded (g.met.B.Board.belongs c.args.board.now) c.requires.starts)
+    subst (λ (b : BoxValue). WantsFiniteEnds d b s) (sym c.requires.root) (start_wants d s c.requires.searched.no_sets_or_arcs.sets (each_bounded d c.requires.searched) (g.met.B.Board.belongs c.args.board.now) c.requires.starts)
 
 pub run_steps-requires-clause-ready : goal.run_steps-requires-clause-ready
 run_steps-requires-clause-ready g c = ready_of c.args.root.now.deck c.args.root.now.limits (g.B.Board.state c.args.board.now) (g.B.Board.state c.rebox.new.board) c.requires.root c.requires.starts (g.met.B.Board.belongs c.args.board.now) c.in-Done.ensures.ends

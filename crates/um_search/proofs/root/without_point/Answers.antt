@@ -1,4 +1,4 @@
-use Rattle.std.proofs.Common.{◌≡◌, ◌∙◌, sym}
+use Rattle.std.proofs.Common.{◌∙◌, sym}
 use Rattle.um_search.proofs.Runs.{run_stands}
 use Rattle.um_search.proofs.Refusals.{large_farkas}
 use Rattle.um_search.proofs.root.without_point.Goals as goal
