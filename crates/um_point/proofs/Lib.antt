@@ -1,5 +1,4 @@
 pub mod ArcSums
-pub mod BoundedSums
 pub mod DeckSizes
 pub mod ObjectiveParts
 pub mod PlaceLemmas

@@ -4,7 +4,7 @@ use Rattle.std.specs.Int.{w128}
 use Rattle.std.proofs.lemmas.Int.{ints}
 use Rattle.std.proofs.Math.Nat.{one-le-pow, pow-le-pow_right}
 use Rattle.um_laws.proofs.WholeLaws.{times_pos}
-use Rattle.um_point.proofs.BoundedSums.{abs_product}
+use Rattle.um_deck.proofs.BoundedSums.{abs_product}
 use Rattle.um_point.proofs.Quotients.{factors_are, product_fits, product_is}
 
 -- what 128 bits keep of a number

@@ -6,7 +6,7 @@ use Rattle.um_laws.proofs.Polynomials.{term, ◌⊖◌, ◌⊗◌, same}
 use Rattle.um_model.specs.Feasible.{IsMultipleOf}
 use Rattle.std.specs.Prelude.{IsTrue, ◌↔◌, eqb}
 use Rattle.std.proofs.lemmas.Bool.{eqb-true, eq-eqb}
-use Rattle.um_point.proofs.BoundedSums.{abs_product, fits_128}
+use Rattle.um_deck.proofs.BoundedSums.{abs_product, fits_128}
 
 -- the machine's product of two numbers, where it fits
 module _ (a b f g : ℤ) (m n : ℕ) (left : f ≡ a) (right : g ≡ b) (left_size : unsigned_abs a ≤ m) (right_size : unsigned_abs b ≤ n) (left_fits : m < 2 ^ 127) (right_fits : n < 2 ^ 127) where

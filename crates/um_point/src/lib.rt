@@ -13,8 +13,6 @@ mod quotient;
 mod rows;
 mod sets;
 mod sums;
-#[cfg(test)]
-mod tests;
 mod value;
 
 pub use first_broken::feasible;

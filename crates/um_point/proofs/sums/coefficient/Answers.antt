@@ -1,7 +1,7 @@
 use Rattle.std.proofs.Common.{pos, ◌^◌, arith}
 use Rattle.std.specs.Prelude.{◌==◌, if◌then◌else◌}
 use Rattle.um_model.specs.declared.deck.Entry.{Entry}
-use Rattle.um_point.proofs.BoundedSums.{sum_step}
+use Rattle.um_deck.proofs.BoundedSums.{sum_step}
 use Rattle.um_point.proofs.sums.coefficient.Goals as goal
 
 pub loop-entry-preserved : goal.loop-entry-preserved

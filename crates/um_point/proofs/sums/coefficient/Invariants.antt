@@ -2,7 +2,7 @@ use Rattle.std.proofs.Common.{◌^◌, pos, take}
 use Rattle.std.specs.Prelude.{◌==◌, if◌then◌else◌}
 use Rattle.um_laws.specs.Sums.{sum_of}
 use Rattle.um_model.specs.declared.deck.Entry.{Entry}
-use Rattle.um_point.proofs.BoundedSums.{SoFar}
+use Rattle.um_deck.proofs.BoundedSums.{SoFar}
 use Rattle.um_point.proofs.sums.coefficient.Given as goal
 
 abbrev pub invariant-loop-entry : goal.invariant-loop-entry

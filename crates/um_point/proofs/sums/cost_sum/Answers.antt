@@ -3,7 +3,7 @@ use Rattle.std.proofs.lemmas.List.{take_all}
 use Rattle.um_model.specs.Values.{ColumnValue, plain_column}
 use Rattle.um_model.specs.declared.deck.Column.{Column}
 use Rattle.um_point.specs.SmallPoints.{IsSmallColumn}
-use Rattle.um_point.proofs.BoundedSums.{dot_step, dot-map}
+use Rattle.um_deck.proofs.BoundedSums.{dot_step, dot-map}
 use Rattle.um_point.proofs.PlaceLemmas.{image_at}
 use Rattle.um_point.proofs.sums.cost_sum.Goals as goal
 

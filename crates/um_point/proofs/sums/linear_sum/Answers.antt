@@ -4,7 +4,7 @@ use Rattle.um_model.specs.Values.{plain_column}
 use Rattle.um_model.specs.Feasible.{coefficient}
 use Rattle.um_model.specs.declared.deck.Column.{Column}
 use Rattle.um_point.specs.SmallPoints.{IsSmallColumn}
-use Rattle.um_point.proofs.BoundedSums.{dot_step, dot-map}
+use Rattle.um_deck.proofs.BoundedSums.{dot_step, dot-map}
 use Rattle.um_point.proofs.PlaceLemmas.{image_at}
 use Rattle.um_point.proofs.sums.linear_sum.Goals as goal
 

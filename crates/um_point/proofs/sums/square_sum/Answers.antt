@@ -2,7 +2,7 @@ use Rattle.std.proofs.Common.{◌^◌, pos, ◌*ℤ◌, arith}
 use Rattle.std.specs.Prelude.{None, if◌then◌else◌}
 use Rattle.um_model.specs.Feasible.{part, is_arc_of}
 use Rattle.um_model.specs.declared.deck.Arc.{Arc}
-use Rattle.um_point.proofs.BoundedSums.{sum_step}
+use Rattle.um_deck.proofs.BoundedSums.{sum_step}
 use Rattle.um_point.proofs.sums.square_sum.Goals as goal
 
 pub loop-arc-preserved : goal.loop-arc-preserved

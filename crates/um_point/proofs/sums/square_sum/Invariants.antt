@@ -3,7 +3,7 @@ use Rattle.std.specs.Prelude.{None, if◌then◌else◌}
 use Rattle.um_laws.specs.Sums.{sum_of}
 use Rattle.um_model.specs.Feasible.{part, is_arc_of}
 use Rattle.um_model.specs.declared.deck.Arc.{Arc}
-use Rattle.um_point.proofs.BoundedSums.{SoFar}
+use Rattle.um_deck.proofs.BoundedSums.{SoFar}
 use Rattle.um_point.proofs.sums.square_sum.Given as goal
 
 abbrev pub invariant-loop-arc : goal.invariant-loop-arc

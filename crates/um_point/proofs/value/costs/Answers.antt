@@ -1,7 +1,7 @@
 use Rattle.std.proofs.Common.{◌^◌, arith, refl, ap, ◌*ℤ◌, ◌∙◌, ℤ, List}
 use Rattle.um_laws.specs.Sums.{dot}
 use Rattle.um_model.specs.Values.{ColumnValue}
-use Rattle.um_point.proofs.BoundedSums.{abs_product}
+use Rattle.um_deck.proofs.BoundedSums.{abs_product}
 use Rattle.um_point.proofs.DeckSizes.{small_columns}
 use Rattle.um_point.proofs.Quotients.{product_fits, product_is}
 use Rattle.um_point.proofs.value.costs.Goals as goal

@@ -2,7 +2,7 @@ use Rattle.std.proofs.Common.{◌≡◌, ◌^◌, ◌<◌, List, length, sym, ap
 use Rattle.std.specs.Prelude.{All}
 use Rattle.um_model.specs.WellFormed.{IsWithin}
 use Rattle.um_model.specs.declared.deck.Arc.{Arc}
-use Rattle.um_point.proofs.ArcSums.{few_arcs}
+use Rattle.um_deck.proofs.ArcCounts.{few_arcs}
 use Rattle.um_point.proofs.value.squares.Goals as goal
 
 pub square_sum-requires-clause-few : goal.square_sum-requires-clause-few
