@@ -1,0 +1,15 @@
+pub mod Scales
+pub mod RowSteps
+pub mod SetSteps
+pub mod RowRules
+pub mod Walks
+pub mod MarkFacts
+pub mod RowNumberFacts
+pub mod Sorted
+pub mod EntryFacts
+pub mod SideFacts
+pub mod NamedFacts
+pub mod DeckFaults
+pub mod NumbersFit
+pub mod ToldFacts
+pub mod ArcSteps

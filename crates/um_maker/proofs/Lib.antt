@@ -1,0 +1,14 @@
+pub mod NewNames
+pub mod SeenItems
+pub mod HeadSteps
+pub mod RowSteps
+pub mod ColumnSteps
+pub mod EntrySteps
+pub mod ChangedNames
+pub mod SideSteps
+pub mod ObjectivePlaces
+pub mod BoundSteps
+pub mod SetSteps
+pub mod ArcSteps
+pub mod MakerKept
+pub mod FinishSteps

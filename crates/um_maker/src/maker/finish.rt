@@ -1,0 +1,69 @@
+//! The deck of all that a maker was told.
+
+ghost use Rattle.std.specs.Prelude.{◌≡◌, [], IfOk, unwrap_or};
+
+use crate::Fault;
+use crate::maker::DeckMaker;
+use std::alloc::Global;
+use um_deck::{Deck, DeckParts};
+use um_made::Told;
+use um_num::{Memory, Name};
+
+impl DeckMaker {
+    ghost use Rattle.um_statements.specs.DeckRules.{Finishes};
+    ghost use Rattle.um_deck.specs.Decks.{IsDeckNow};
+
+    /// The deck of all that was told, or the first of the rules on the whole deck that is broken: those on the
+    /// objective, then on rows, columns and sets, each by number. `Memory` may come in their place.
+    pub fn finish(self) -> Result<Deck, Fault>
+        ensures made { Finishes self result }
+        ensures formed { IfOk result IsDeckNow }
+    {
+        let DeckMaker {
+            alloc,
+            name,
+            maximise,
+            rows,
+            columns,
+            sets,
+            arcs,
+            objective: _,
+            sided_rows: _,
+            arc_columns: _,
+        } = self;
+        let name = name_or_empty(alloc, name)?;
+        let rows = rows.into_list(alloc)?;
+        let columns = columns.into_list(alloc)?;
+        let sets = sets.into_list(alloc)?;
+        let told = Told {
+            maximise,
+            rows,
+            columns,
+            sets,
+            arcs,
+        };
+        match told.parts(alloc) {
+            Ok(parts) => Ok(Deck::from_parts(DeckParts {
+                name,
+                objective_name: parts.objective_name,
+                maximise,
+                scale: parts.scale,
+                constant: parts.constant,
+                rows: parts.rows,
+                columns: parts.columns,
+                sets: parts.sets,
+                arcs: parts.arcs,
+            })),
+            Err(fault) => Err(fault),
+        }
+    }
+}
+
+fn name_or_empty(alloc: Global, name: Option<Name>) -> Result<Name, Memory>
+    ensures { IfOk result (λ given. given ≡ unwrap_or name []) }
+{
+    match name {
+        Some(name) => Ok(name),
+        None => Name::from_bytes(alloc, b""),
+    }
+}

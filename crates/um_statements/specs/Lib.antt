@@ -1,0 +1,9 @@
+pub mod Statements
+pub mod Said
+pub mod Scaled
+pub mod CallRules
+pub mod Tells
+pub mod Made
+pub mod DeckRules
+pub mod WellSaid
+pub mod Laws
