@@ -1,0 +1,54 @@
+-- What the reader knows behind some lines of a text.
+use Rattle.std.specs.Prelude.{◌≡◌, ◌⊎◌, ◌+◌, ◌<◌, ℕ, Bool, true, is_some, if◌then◌else◌, List, [], ◌∷◌, ◌++◌, length, Option, Some, None, option_map, Result, MatchResult}
+use Rattle.std.specs.Option.{option_or}
+use Rattle.um_statements.specs.declared.fault.Fault.{Fault}
+use Rattle.um_statements.specs.declared.fault.Fault.TheVariants.{NoEnd, Memory}
+use Rattle.um_statements.specs.Said.{Said, nothing_said}
+use Rattle.um_statements.specs.CallRules.{faults_in}
+use Rattle.um_mps.specs.declared.section.Section.TheVariants as section
+use Rattle.um_mps.specs.Sections.{is_section}
+use Rattle.um_mps.specs.DeckLines.{Line}
+use Rattle.um_mps.specs.Places.{Place, place_of}
+use Rattle.um_mps.specs.DeckText.{told, known, own_fault, line_fault, is_end}
+
+-- a column that a line may go on with is there in COLUMNS alone, and is one that a maker has
+pub record IsPlace (p : Place) (said : Said) : Type 0 where
+  pub in_columns : is_some p.column ≡ true → is_section section.Columns p.section ≡ true
+  pub some : is_some p.column ≡ true → 0 < length said.columns
+
+-- behind these lines, which broke no rule, the place is this, and a maker knows this
+pub record IsBehind (before : List Line) (place : Place) (maker : Said) : Type 0 where
+  pub here : place ≡ place_of before
+  pub unbroken : faults_in nothing_said (told before) ≡ None
+  pub said : maker ≡ known before
+
+-- The answer to the next line: it breaks no rule, whether it is the last, and what is known behind it; or the rule
+-- that it breaks.
+abbrev pub Reads : List Line → Line → Result Bool Fault → Place → Said → Type 0
+Reads before line result place maker = MatchResult result
+    (λ ended. (own_fault before line ≡ None) × (ended ≡ is_end line) × IsBehind (before ++ line ∷ []) place maker)
+    (λ fault. (fault ≡ Memory) ⊎ (own_fault before line ≡ Some fault))
+
+-- ---- the loop over the lines
+
+-- the line and the fault of the first broken rule, in the lines behind others
+abbrev pub fault_behind : List Line → List Line → Option (ℕ × Fault)
+fault_behind before [] = Some (length before, NoEnd)
+fault_behind before (line ∷ lines) =
+    option_or (option_map (λ fault. (length before + 1, fault)) (line_fault before line))
+    (if is_end line then None else fault_behind (before ++ line ∷ []) lines)
+
+-- the lines up to ENDATA, behind others
+abbrev pub counted_behind : List Line → List Line → List Line
+counted_behind before [] = before
+counted_behind before (line ∷ lines) = if is_end line then before ++ line ∷ [] else counted_behind (before ++ line ∷ []) lines
+
+-- what the loop knows: the lines before, which broke no rule, and the rest
+pub record IsReading (all rest : List Line) (number : ℕ) (place : Place) (maker : Said) : Type 0 where
+  pub before : List Line
+  pub split : all ≡ before ++ rest
+  pub count : length before ≡ number
+  pub behind : IsBehind before place maker
+  pub may : IsPlace place maker
+  pub same_fault : fault_behind before rest ≡ fault_behind [] all
+  pub same_lines : counted_behind before rest ≡ counted_behind [] all

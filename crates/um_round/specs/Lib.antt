@@ -1,0 +1,5 @@
+pub mod Numerals
+pub mod NormalLines
+pub mod Sayable
+pub mod Laws
+pub mod Examples
