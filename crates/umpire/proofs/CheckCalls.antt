@@ -1,20 +1,19 @@
 -- What a call of `check` does, from what became of its files and of its text.
-use Rattle.std.proofs.Common.{◌≡◌, ◌∙◌, ℕ, [], ◌∷◌, ◌++◌, Result, Ok, Err, IfOk, IfErr, refl, sym, subst, arith, inl, inr}
+use Rattle.std.proofs.Common.{◌≡◌, ◌∙◌, [], ◌∷◌, Result, Ok, Err, IfOk, IfErr, refl, sym, subst, arith, inl, inr}
 use Rattle.um_outside.specs.Scenes.{Scene, to_open}
 use Rattle.um_outside.specs.Sinks.{SinkScene}
 use Rattle.um_outside.specs.WholeFiles.{ReadGivenUp}
 use Rattle.um_model.specs.Values.{DeckValue}
 use Rattle.um_model.specs.AnswerValues.{AnswerValue}
 use Rattle.um_model.specs.declared.verdict.Verdict.{Verdict}
-use Rattle.umpire.specs.CheckRuns.{CheckNames, CheckRan, CheckDue, CheckFails, CheckRefuses, check_files, CheckKeeps, HasJudged, CheckStopped}
-use Rattle.umpire.specs.Findings.{HasDeck, HasTree, HasNoDeck, HasNoTree, IsFinding, unread_deck, unread_tree}
+use Rattle.umpire.specs.CheckRuns.{CheckNames, CheckRan, CheckDue, CheckFails, check_files, CheckKeeps, HasJudged, CheckStopped}
+use Rattle.umpire.specs.Findings.{HasDeck, HasTree, IsFinding}
 use Rattle.umpire.specs.Refusals.{refusal_text}
 use Rattle.um_report.specs.Verdicts.{verdict_text}
-use Rattle.umpire.specs.Stops.{FileStopped, SaidOrNot, GaveUp}
+use Rattle.umpire.specs.Stops.{FileStopped, RefusesDeck, RefusesTree, SaidOrNot, GaveUp}
 use Rattle.umpire.specs.declared.ending.Ending.{Ending}
 use Rattle.umpire.specs.declared.ending.Ending.TheVariants.{Judged, Refused}
-use Rattle.umpire.specs.declared.outcome.Refusal.{Refusal}
-use Rattle.umpire.specs.declared.outcome.Refusal.TheVariants.{Deck, Tree}
+use Rattle.umpire.specs.declared.outcome.Refusal.TheVariants.{Words, LowTolerance, Deck, Tree}
 use Rattle.umpire.specs.declared.reading.Stop.{Stop}
 use Rattle.umpire.specs.declared.reading.Stop.TheVariants as stop
 use Rattle.um_outside.proofs.AskedInOrder.{asked_then}
@@ -40,10 +39,11 @@ both_keep names s m t a b = record {
 }
 
 -- the deck was not taken
-pub deck_stopped : (names : CheckNames) (why : Stop) (s t : Scene) → FileStopped names.deck (Deck unread_deck) (HasNoDeck names.deck) why s t → CheckStopped names why s t
-deck_stopped names (stop.Refused r) s t h =
-    let P : Refusal → Type 0 = λ x. CheckRefuses names x s t in
-    (subst P (sym h.0) (refl, h.1), deck_keeps names s t (no_deck_left names.deck s t h.1))
+pub deck_stopped : (names : CheckNames) (why : Stop) (s t : Scene) → FileStopped names.deck (RefusesDeck names.deck) why s t → CheckStopped names why s t
+deck_stopped names (stop.Refused (Deck f)) s t h = (h, deck_keeps names s t (no_deck_left names.deck f s t h))
+deck_stopped names (stop.Refused (Tree f)) s t h = absurd h
+deck_stopped names (stop.Refused (Words w)) s t h = absurd h
+deck_stopped names (stop.Refused (LowTolerance least)) s t h = absurd h
 deck_stopped names stop.Fault s t h = record {
   fails = inl h;
   files = record { put = h.put; holds = h.holds };
@@ -52,12 +52,14 @@ deck_stopped names stop.Fault s t h = record {
 deck_stopped names stop.Memory s t h = deck_keeps names s t h
 
 -- the deck was read, and the tree was not taken
-pub tree_stopped : (names : CheckNames) (d : DeckValue) (why : Stop) (s m t : Scene) → HasDeck names.deck d s m → FileStopped names.tree (Tree unread_tree) (HasNoTree d names.tree) why m t → CheckStopped names why s t
-tree_stopped names d (stop.Refused r) s m t a h =
-    let P : Refusal → Type 0 = λ x. CheckRefuses names x s t in (
-      subst P (sym h.0) (refl, record { between = m; deck = d; deck_read = a; tree = h.1 }),
-      both_keep names s m t (deck_left names.deck d s m a) (no_tree_left d names.tree m t h.1),
-    )
+pub tree_stopped : (names : CheckNames) (d : DeckValue) (why : Stop) (s m t : Scene) → HasDeck names.deck d s m → FileStopped names.tree (RefusesTree d names.tree) why m t → CheckStopped names why s t
+tree_stopped names d (stop.Refused (Tree f)) s m t a h = (
+  (h.0, record { between = m; deck = d; deck_read = a; tree = h.1 }),
+  both_keep names s m t (deck_left names.deck d s m a) (no_tree_left d names.tree m t h.1),
+)
+tree_stopped names d (stop.Refused (Deck f)) s m t a h = absurd h
+tree_stopped names d (stop.Refused (Words w)) s m t a h = absurd h
+tree_stopped names d (stop.Refused (LowTolerance least)) s m t a h = absurd h
 tree_stopped names d stop.Fault s m t a h =
     let k = deck_left names.deck d s m a in
     record {

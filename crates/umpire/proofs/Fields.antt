@@ -1,5 +1,5 @@
 -- The fields of each kind of answer: the test, and what it says.
-use Rattle.std.proofs.Common.{◌≡◌, ◌≢◌, ℕ, true, false, Bool, not, ◌&&◌, ◌||◌, ℤ, List, [], ◌∷◌, length, Option, Some, None, is_some, IfSome, refl, sym, subst, ◌∙◌, arith}
+use Rattle.std.proofs.Common.{◌≡◌, ◌≢◌, ℕ, true, false, Bool, not, ◌&&◌, ◌||◌, ℤ, List, [], ◌∷◌, length, Option, Some, None, is_some, IfSome, refl, sym, subst, arith}
 use Rattle.std.specs.Prelude.{All, ◌↔◌, IsSome}
 use Rattle.std.proofs.lemmas.Bool.{and_from, and_parts}
 use Rattle.std.proofs.lemmas.List.Elements.{All-cons}
@@ -16,7 +16,7 @@ use Rattle.umpire.specs.FirstTrees.{IsFirstTree, IsPointOver, IsLeafWhat, IsOneL
 use Rattle.umpire.specs.declared.tree_text.parts.Head.{Head}
 use Rattle.umpire.proofs.WordEnds.{nothing_is_some}
 
--- ---- reasons
+-- ---- causes
 
 limit_test : (k : AnswerKind) → k ≡ kind.Limit → is_limit k ≡ true
 limit_test k e = rw e refl
@@ -114,13 +114,13 @@ head_of a = record { kind = a.kind; why = a.why; objective = a.objective; bound 
 pub fields_test : (a : AnswerValue) → FieldsGo a → a.ray ≡ None → do_fields_go (head_of a) (is_some a.point) ≡ true
 unfolding do_fields_go
 fields_test a h none =
-    and_from (does_why_go a.kind a.why) (do_parts_go a.kind (is_some a.point) (is_some a.objective) (is_some a.bound)) (why_test a.kind a.why h.reason) (parts_test a.kind a h.fields none)
+    and_from (does_why_go a.kind a.why) (do_parts_go a.kind (is_some a.point) (is_some a.objective) (is_some a.bound)) (why_test a.kind a.why h.cause) (parts_test a.kind a h.fields none)
 
 pub fields_from : (a : AnswerValue) → do_fields_go (head_of a) (is_some a.point) ≡ true → a.ray ≡ None → FieldsGo a
 unfolding do_fields_go
 fields_from a e none =
     let both = and_parts (does_why_go a.kind a.why) (do_parts_go a.kind (is_some a.point) (is_some a.objective) (is_some a.bound)) e in
-    record { reason = why_goes a.kind a.why both.0; fields = parts_from a.kind a both.1 none }
+    record { cause = why_goes a.kind a.why both.0; fields = parts_from a.kind a both.1 none }
 
 has_ray : (a : AnswerValue) (k : AnswerKind) → FieldsOf k a → k ≡ kind.Unbounded → IsSome a.ray
 has_ray a k h e = let f : FieldsOf kind.Unbounded a = subst (λ (j : AnswerKind). FieldsOf j a) e h in f.ray

@@ -4,6 +4,7 @@ use Rattle.um_outside.specs.Scenes.{Scene}
 use Rattle.um_outside.specs.WholeFiles.{ReadWhole, ReadTooMuch, ReadGivenUp}
 use Rattle.um_model.specs.Values.{DeckValue}
 use Rattle.um_model.specs.AnswerValues.{AnswerValue}
+use Rattle.um_mps.specs.declared.reader.ReadFault.{ReadFault}
 use Rattle.umpire.specs.Findings.{HasDeck, HasTree, HasNoDeck, HasNoTree}
 
 whole_left : (name bytes : List ℕ) (s t : Scene) → ReadWhole name bytes s t → ReadGivenUp name s t
@@ -15,9 +16,9 @@ too_much_left name most s t h = record { well = h.well; put = h.put; holds = h.h
 pub deck_left : (name : List ℕ) (d : DeckValue) (s t : Scene) → HasDeck name d s t → ReadGivenUp name s t
 deck_left name d s t h = whole_left name h.bytes s t h.read
 
-pub no_deck_left : (name : List ℕ) (s t : Scene) → HasNoDeck name s t → ReadGivenUp name s t
-no_deck_left name s t (inl h) = whole_left name h.bytes s t h.read
-no_deck_left name s t (inr h) = too_much_left name 65536 s t h
+pub no_deck_left : (name : List ℕ) (f : ReadFault) (s t : Scene) → HasNoDeck name f s t → ReadGivenUp name s t
+no_deck_left name f s t (inl h) = whole_left name h.bytes s t h.read
+no_deck_left name f s t (inr h) = too_much_left name 16777216 s t h.1
 
 pub tree_left : (d : DeckValue) (name : List ℕ) (a : AnswerValue) (s t : Scene) → HasTree d name a s t → ReadGivenUp name s t
 tree_left d name a s t h = whole_left name h.bytes s t h.read

@@ -67,9 +67,9 @@ abs_signed : (n : ℕ) → unsigned_abs (signed true n) ≡ n
 abs_signed zero = refl
 abs_signed (suc n) = refl
 
-plain_word_text : (word : List ℕ) → (is_zero word || is_positive word) ≡ true → places word < 10 ^ 64 → word ≡ decimal (places word)
+numeral_word_text : (word : List ℕ) → (is_zero word || is_positive word) ≡ true → places word < 10 ^ 64 → word ≡ decimal (places word)
 unfolding places
-plain_word_text word e h =
+numeral_word_text word e h =
     elim (cases_Bool (is_zero word)) [
       | inl zeros ↦ let is = zero_word word zeros in rw is (sym (decimal_digit 0 (omega arith)))
       | inr others ↦ let up : is_positive word ≡ true = rw others at e in sym (positive_word word up h).0
@@ -79,10 +79,10 @@ pub value_text : (word : List ℕ) (z : ℤ) → number_value word ≡ Some z �
 unfolding number_value
 value_text word z e =
     elim (cases_Bool (is_zero word || is_positive word)) [
-      | inl plain ↦
-          let f : number_or_none (ranged (pos (places word))) ≡ Some z = rw plain at e in
+      | inl unsigned ↦
+          let f : number_or_none (ranged (pos (places word))) ≡ Some z = rw unsigned at e in
           let r = in_range_from (pos (places word)) z f in
-          (plain_word_text word plain (small (pos (places word)) (places word) refl r.1) ∙ ap signed_decimal r.0, rw (← r.0) r.1)
+          (numeral_word_text word unsigned (small (pos (places word)) (places word) refl r.1) ∙ ap signed_decimal r.0, rw (← r.0) r.1)
       | inr other ↦
           elim (cases_Bool (has_minus word && is_positive (drop 1 word))) [
             | inl minus ↦

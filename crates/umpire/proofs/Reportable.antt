@@ -1,5 +1,5 @@
 -- The answer to a deck can be reported.
-use Rattle.std.proofs.Common.{◌≡◌, ◌<◌, ◌^◌, ℤ, pos, ◌≤ℤ◌, Option, Some, None, IfSome, sym, subst, inl, inr, arith}
+use Rattle.std.proofs.Common.{ℤ, pos, ◌≤ℤ◌, Option, Some, None, IfSome, sym, subst, inl, inr, arith}
 use Rattle.std.proofs.lemmas.Int.{ints}
 use Rattle.um_model.specs.Values.{DeckValue, PointValue}
 use Rattle.um_model.specs.Accepted.{IsVerdict, NumbersSmall, IsSmallPoint}

@@ -1,5 +1,5 @@
 -- What a call comes to, from how its text was said.
-use Rattle.std.proofs.Common.{◌≡◌, ℕ, List, sym, subst, ◌⊎◌, inl, inr}
+use Rattle.std.proofs.Common.{ℕ, List, sym, subst, inl, inr}
 use Rattle.std.specs.Prelude.{⊤}
 use Rattle.um_outside.specs.Scenes.{Scene}
 use Rattle.um_outside.specs.Desks.{WentWell}

@@ -1,5 +1,5 @@
 -- What a call of `solve` does, from what became of its files and of its text.
-use Rattle.std.proofs.Common.{◌≡◌, ◌∙◌, ℕ, List, [], ◌∷◌, ◌++◌, refl, sym, subst, arith, inl, inr}
+use Rattle.std.proofs.Common.{◌≡◌, ◌∙◌, ℕ, List, [], ◌∷◌, refl, sym, subst, arith, inl, inr}
 use Rattle.std.specs.Prelude.{Option, Some, None}
 use Rattle.um_outside.specs.Scenes.{Scene, Files, to_open, to_create}
 use Rattle.um_outside.specs.Desks.{ChangesOnly}
@@ -9,16 +9,15 @@ use Rattle.um_model.specs.Values.{DeckValue}
 use Rattle.um_model.specs.AnswerValues.{AnswerValue, plain_answer}
 use Rattle.um_model.specs.declared.answer.Answer.{Answer}
 use Rattle.umpire.specs.Calls.{MakesNoFile}
-use Rattle.umpire.specs.SolveRuns.{SolveNames, SolveRan, SolveDue, SolveFails, SolveRefuses, MakesTree, tree_file, SolveKeeps, SolveFaulted, HasSolved, SolveStopped}
-use Rattle.umpire.specs.Findings.{HasDeck, HasNoDeck, Answers, unread_deck}
+use Rattle.umpire.specs.SolveRuns.{SolveNames, SolveRan, SolveDue, SolveFails, MakesTree, tree_file, SolveKeeps, SolveFaulted, HasSolved, SolveStopped}
+use Rattle.umpire.specs.Findings.{HasDeck, Answers}
 use Rattle.umpire.specs.Refusals.{refusal_text}
 use Rattle.um_report.specs.Reports.{report_text}
 use Rattle.um_treetext.specs.TreeText.{tree_text}
-use Rattle.umpire.specs.Stops.{FileStopped, SaidOrCut, GaveUp}
+use Rattle.umpire.specs.Stops.{FileStopped, RefusesDeck, SaidOrCut, GaveUp}
 use Rattle.umpire.specs.declared.ending.Ending.{Ending}
 use Rattle.umpire.specs.declared.ending.Ending.TheVariants.{Answered, Refused, Faulted, WithoutMemory}
-use Rattle.umpire.specs.declared.outcome.Refusal.{Refusal}
-use Rattle.umpire.specs.declared.outcome.Refusal.TheVariants.{Deck}
+use Rattle.umpire.specs.declared.outcome.Refusal.TheVariants.{Words, LowTolerance, Deck, Tree}
 use Rattle.umpire.specs.declared.reading.Stop.{Stop}
 use Rattle.umpire.specs.declared.reading.Stop.TheVariants as stop
 use Rattle.um_outside.proofs.AskedInOrder.{asked_then}
@@ -52,10 +51,11 @@ deck_keeps names s t h = record {
 }
 
 -- the deck was not taken
-pub deck_stopped : (names : SolveNames) (why : Stop) (s t : Scene) → FileStopped names.deck (Deck unread_deck) (HasNoDeck names.deck) why s t → SolveStopped names why s t
-deck_stopped names (stop.Refused r) s t h =
-    let P : Refusal → Type 0 = λ x. SolveRefuses names x s t in
-    (subst P (sym h.0) (refl, h.1), deck_keeps names s t (no_deck_left names.deck s t h.1))
+pub deck_stopped : (names : SolveNames) (why : Stop) (s t : Scene) → FileStopped names.deck (RefusesDeck names.deck) why s t → SolveStopped names why s t
+deck_stopped names (stop.Refused (Deck f)) s t h = (h, deck_keeps names s t (no_deck_left names.deck f s t h))
+deck_stopped names (stop.Refused (Tree f)) s t h = absurd h
+deck_stopped names (stop.Refused (Words w)) s t h = absurd h
+deck_stopped names (stop.Refused (LowTolerance least)) s t h = absurd h
 deck_stopped names stop.Fault s t h = record {
   fails = inl h;
   files = unmade_but names.tree s t (record { put = h.put; holds = h.holds });

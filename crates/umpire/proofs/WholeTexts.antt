@@ -1,5 +1,5 @@
 -- The whole text of an answer is what the reader takes, and the other way round.
-use Rattle.std.proofs.Common.{◌≡◌, ◌≢◌, ℕ, true, List, [], ◌∷◌, ◌++◌, length, codes, ℤ, Option, Some, None, is_some, if◌then◌else◌, IfSome, IfOk, Result, Ok, Err, MatchResult, refl, sym, subst, ap, ◌∙◌, inl, inr, arith}
+use Rattle.std.proofs.Common.{◌≡◌, ℕ, true, List, [], ◌∷◌, ◌++◌, length, codes, ℤ, Option, Some, None, is_some, if◌then◌else◌, IfSome, IfOk, Result, Ok, Err, MatchResult, refl, sym, subst, ap, ◌∙◌, inl, inr, arith}
 use Rattle.std.proofs.lemmas.Bool.{cases_Bool}
 use Rattle.std.proofs.lemmas.Fmt.{decimal_digit}
 use Rattle.um_model.specs.Values.{DeckValue, PointValue}

@@ -1,4 +1,4 @@
--- The words of a reason are those that are read.
+-- The words of a cause are those that are read.
 use Rattle.std.proofs.Common.{◌≡◌, ℕ, ◌<◌, ◌^◌, true, false, List, [], ◌∷◌, ◌++◌, decimal, codes, Option, Some, None, IfSome, refl, subst, ap, ◌∙◌, arith}
 use Rattle.std.specs.Fmt.{signed_decimal}
 use Rattle.std.specs.List.{list_all}
@@ -103,7 +103,7 @@ event_from bytes v t e =
     let P : Event → Type 0 = λ q. (bytes ≡ event_onto q t) × IsEventRead q in
     subst P (ap (λ p. p.0) pair) (s0, record { number_size = number.1; step_size = step.1; operands = wide.1 })
 
--- ---- reasons
+-- ---- causes
 
 first_bytes : (w : WhyWord) → list_all is_word_byte (first_word w) ≡ true
 first_bytes first.None = refl
@@ -157,7 +157,7 @@ why_text (Some (why.Leaf number)) t h e = why_first first.Leaf (32 ∷ (decimal 
 why_text (Some (why.Vertex number)) t h e = why_first first.Vertex (32 ∷ (decimal number ++ t)) (Some (Some (why.Vertex number), t)) refl (ap (caused why.Vertex) (natural_text (2 ^ 32) number t h (omega arith) e))
 why_text (Some why.Ray) t h e = why_first first.Ray t (Some (Some why.Ray, t)) e refl
 
--- the reason that was read behind this first word
+-- the cause that was read behind this first word
 abbrev IsCause : WhyWord → List ℕ → Option Why → List ℕ → Type 0
 IsCause w rest o t = (32 ∷ (first_word w ++ rest) ≡ words_onto (why_words o) t) × IfSome o IsWhy
 

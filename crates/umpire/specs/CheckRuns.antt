@@ -1,5 +1,5 @@
 -- What the command `check DECK TREE` does: it says whether the tree proves its answer to the deck.
-use Rattle.std.specs.Prelude.{◌≡◌, ◌≢◌, ℕ, ◌⊎◌, ◌&&◌, List, [], ◌∷◌, Option, Some, None, if◌then◌else◌, codes, bytes_eq}
+use Rattle.std.specs.Prelude.{◌≡◌, ℕ, ◌⊎◌, ◌&&◌, List, [], ◌∷◌, Option, Some, None, if◌then◌else◌, codes, bytes_eq}
 use Rattle.um_outside.specs.Scenes.{Scene, Asked, to_open}
 use Rattle.um_outside.specs.Desks.{WentWell}
 use Rattle.um_outside.specs.Sinks.{SinkScene}
@@ -8,7 +8,7 @@ use Rattle.um_model.specs.Values.{DeckValue}
 use Rattle.um_model.specs.AnswerValues.{AnswerValue}
 use Rattle.um_model.specs.declared.verdict.Verdict.{Verdict}
 use Rattle.umpire.specs.Calls.{ComesTo, MakesNoFile, AsksInOrder}
-use Rattle.umpire.specs.Findings.{HasDeck, HasTree, HasNoDeck, HasNoTree, IsFinding, unread_deck, unread_tree}
+use Rattle.umpire.specs.Findings.{HasDeck, HasTree, HasNoDeck, HasNoTree, IsFinding, unread_tree}
 use Rattle.umpire.specs.Refusals.{refusal_text}
 use Rattle.um_report.specs.Verdicts.{verdict_text}
 use Rattle.umpire.specs.Words.{is_file_name}
@@ -56,7 +56,7 @@ pub record RefusesTree (names : CheckNames) (s t : Scene) : Type 0 where
 
 -- what was read before this refusal
 abbrev pub CheckRefuses : CheckNames → Refusal → Scene → Scene → Type 0
-CheckRefuses names (Deck fault) s t = (fault ≡ unread_deck) × HasNoDeck names.deck s t
+CheckRefuses names (Deck fault) s t = HasNoDeck names.deck fault s t
 CheckRefuses names (Tree fault) s t = (fault ≡ unread_tree) × RefusesTree names s t
 CheckRefuses names other s t = ⊥
 

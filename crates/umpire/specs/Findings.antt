@@ -7,11 +7,11 @@ use Rattle.um_model.specs.Accepted.{IsVerdict, IsAccepted}
 use Rattle.um_model.specs.Right.{IsRight}
 use Rattle.um_model.specs.declared.verdict.Verdict.{Verdict}
 use Rattle.um_model.specs.declared.verdict.Verdict.TheVariants.{Yes}
-use Rattle.um_deck.specs.NormalText.{normal_text}
-use Rattle.um_deck.specs.PlainDecks.{IsFirstDeck}
+use Rattle.um_statements.specs.declared.fault.Fault.TheVariants as deck
+use Rattle.um_mps.specs.DeckText.{DeckText, DeckFault}
+use Rattle.um_mps.specs.declared.reader.ReadFault.{ReadFault}
 use Rattle.um_search.specs.Answers.{TellsRun}
-use Rattle.um_deck.specs.declared.fault.Fault.TheVariants as deck
-use Rattle.umpire.specs.declared.outcome.ReadFault.{ReadFault}
+use Rattle.um_search.specs.Conditions.{IsSearched}
 use Rattle.umpire.specs.declared.outcome.TreeFault.{TreeFault}
 use Rattle.umpire.specs.declared.outcome.TreeWord.TheVariants as tree
 use Rattle.um_model.specs.AnswerValues.{AnswerValue}
@@ -20,15 +20,23 @@ use Rattle.um_treetext.specs.TreeText.{tree_text}
 
 -- ---- texts
 
--- the bytes are the text of this deck, and of no other
-pub record IsDeckText (bytes : List ℕ) (d : DeckValue) : Type 0 where
-  pub first : IsFirstDeck d
-  pub text : bytes ≡ normal_text d
-  pub only : (other : DeckValue) → IsFirstDeck other → bytes ≡ normal_text other → d ≡ other
+-- the refusal of a deck that is not searched yet, and that of a file that is longer than any deck: they name no line
+abbrev pub unread_deck : ReadFault
+unread_deck = record { line = 0; fault = deck.NotYet }
 
--- the bytes are the text of no deck
-abbrev pub IsNoDeckText : List ℕ → Type 0
-IsNoDeckText bytes = (d : DeckValue) → IsFirstDeck d → bytes ≢ normal_text d
+abbrev pub long_deck : ReadFault
+long_deck = record { line = 0; fault = deck.TooLong }
+
+-- the bytes are the text of a deck that is not searched yet, which is refused so
+pub record IsUnsearchedText (bytes : List ℕ) (f : ReadFault) : Type 0 where
+  pub deck : DeckValue
+  pub text : DeckText bytes deck
+  pub other : ¬ IsSearched deck
+  pub refusal : f ≡ unread_deck
+
+-- why the bytes are not taken as a deck: the first rule that they break, at its line; or the deck is not searched yet
+abbrev pub IsNoDeckText : List ℕ → ReadFault → Type 0
+IsNoDeckText bytes f = DeckFault bytes f.line f.fault ⊎ IsUnsearchedText bytes f
 
 -- the bytes are the text of this answer for the deck, and of no other
 pub record IsTreeText (d : DeckValue) (bytes : List ℕ) (a : AnswerValue) : Type 0 where
@@ -42,14 +50,14 @@ IsNoTreeText d bytes = (a : AnswerValue) → IsFirstTree d a → bytes ≢ tree_
 
 -- ---- files
 
--- the file of this name was read to its end, has at most 65,536 bytes, and is the text of this deck
+-- the file of this name was read to its end, and is the text of this deck, which is one that is searched
 pub record HasDeck (name : List ℕ) (d : DeckValue) (s t : Scene) : Type 0 where
   pub bytes : List ℕ
   pub read : ReadWhole name bytes s t
-  pub size : length bytes ≤ 65536
-  pub text : IsDeckText bytes d
+  pub text : DeckText bytes d
+  pub searched : IsSearched d
 
--- the same of a tree: the file is the text of this answer
+-- the file of this name was read to its end, has at most 65,536 bytes, and is the text of this answer for the deck
 pub record HasTree (d : DeckValue) (name : List ℕ) (a : AnswerValue) (s t : Scene) : Type 0 where
   pub bytes : List ℕ
   pub read : ReadWhole name bytes s t
@@ -62,18 +70,15 @@ pub record HasOther (IsNoText : List ℕ → Type 0) (name : List ℕ) (s t : Sc
   pub read : ReadWhole name bytes s t
   pub other : IsNoText bytes
 
--- the file of this name is the text of no deck, or longer than any file that is taken
-abbrev pub HasNoDeck : List ℕ → Scene → Scene → Type 0
-HasNoDeck name s t = HasOther IsNoDeckText name s t ⊎ ReadTooMuch name 65536 s t
+-- why the file of this name is not taken as a deck: its bytes are not, or it has more than 2^24 bytes
+abbrev pub HasNoDeck : List ℕ → ReadFault → Scene → Scene → Type 0
+HasNoDeck name f s t = HasOther (λ bytes. IsNoDeckText bytes f) name s t ⊎ ((f ≡ long_deck) × ReadTooMuch name 16777216 s t)
 
--- the same of a tree
+-- the file of this name is the text of no answer for the deck, or longer than any tree that is taken
 abbrev pub HasNoTree : DeckValue → List ℕ → Scene → Scene → Type 0
 HasNoTree d name s t = HasOther (IsNoTreeText d) name s t ⊎ ReadTooMuch name 65536 s t
 
--- the refusals of a file whose text is in no form that is read yet: they name no line
-abbrev pub unread_deck : ReadFault
-unread_deck = record { line = 0; fault = deck.NotYet }
-
+-- the refusal of a tree whose text is in no form that is read yet: it names no line
 abbrev pub unread_tree : TreeFault
 unread_tree = record { line = 0; fault = tree.NotYet }
 

@@ -1,5 +1,5 @@
 -- The answers that the reader of trees of one leaf takes.
-use Rattle.std.specs.Prelude.{◌≡◌, ◌≢◌, ◌↔◌, ℕ, ◌<◌, ◌^◌, Bool, ◌||◌, not, nat_eq, ℤ, pos, ◌≤ℤ◌, unsigned_abs, List, [], ◌∷◌, length, All, None, IfSome, true, ⊤}
+use Rattle.std.specs.Prelude.{◌≡◌, ◌≢◌, ℕ, ◌<◌, ◌^◌, Bool, ◌||◌, not, nat_eq, ℤ, pos, ◌≤ℤ◌, unsigned_abs, List, [], ◌∷◌, length, All, None, IfSome, true, ⊤}
 use Rattle.std.specs.List.{list_all}
 use Rattle.um_laws.specs.Rational.{Rational}
 use Rattle.um_num.specs.Numbers.{IsInRange}

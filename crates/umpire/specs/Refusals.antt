@@ -1,7 +1,7 @@
 -- The lines of refusals.
 use Rattle.std.specs.Prelude.{ℕ, List, [], ◌∷◌, ◌++◌, codes, decimal}
-use Rattle.um_deck.specs.declared.fault.Fault.{Fault}
-use Rattle.um_deck.specs.declared.fault.Fault.TheVariants as deck
+use Rattle.um_statements.specs.declared.fault.Fault.{Fault}
+use Rattle.um_statements.specs.declared.fault.Fault.TheVariants as deck
 use Rattle.umpire.specs.declared.outcome.TreeWord.{TreeWord}
 use Rattle.umpire.specs.declared.outcome.TreeWord.TheVariants as tree
 use Rattle.umpire.specs.declared.outcome.WordFault.TheVariants.{Line}
@@ -13,6 +13,35 @@ abbrev pub line : List ℕ → List ℕ
 line text = text ++ 10 ∷ []
 
 abbrev pub deck_word : Fault → List ℕ
+deck_word deck.TooLong = codes "TooLong"
+deck_word deck.NoEnd = codes "NoEnd"
+deck_word deck.UnknownSection = codes "UnknownSection"
+deck_word deck.SectionOrder = codes "SectionOrder"
+deck_word deck.BadWords = codes "BadWords"
+deck_word deck.UnknownKind = codes "UnknownKind"
+deck_word deck.BadNumber = codes "BadNumber"
+deck_word deck.TooWide = codes "TooWide"
+deck_word deck.UnknownRow = codes "UnknownRow"
+deck_word deck.UnknownColumn = codes "UnknownColumn"
+deck_word deck.TwiceRow = codes "TwiceRow"
+deck_word deck.TwiceColumn = codes "TwiceColumn"
+deck_word deck.TwiceEntry = codes "TwiceEntry"
+deck_word deck.TwiceSet = codes "TwiceSet"
+deck_word deck.TwiceMember = codes "TwiceMember"
+deck_word deck.NoObjective = codes "NoObjective"
+deck_word deck.Marker = codes "Marker"
+deck_word deck.SemiInteger = codes "SemiInteger"
+deck_word deck.ArcRow = codes "ArcRow"
+deck_word deck.TooMany = codes "TooMany"
+deck_word deck.TooFine = codes "TooFine"
+deck_word deck.TooLarge = codes "TooLarge"
+deck_word deck.SemiLower = codes "SemiLower"
+deck_word deck.CrossedBounds = codes "CrossedBounds"
+deck_word deck.NotFinite = codes "NotFinite"
+deck_word deck.LowerNotZero = codes "LowerNotZero"
+deck_word deck.ArcInSet = codes "ArcInSet"
+deck_word deck.EmptySet = codes "EmptySet"
+deck_word deck.TwiceWeight = codes "TwiceWeight"
 deck_word deck.NotYet = codes "NotYet"
 deck_word deck.Memory = codes "Memory"
 

@@ -1,11 +1,12 @@
 -- Why a file is not taken, and how a text is said. Only the contracts of private functions rest on it.
-use Rattle.std.specs.Prelude.{◌≡◌, ℕ, ◌⊎◌, List}
+use Rattle.std.specs.Prelude.{◌≡◌, ◌≢◌, ℕ, ◌⊎◌, List, ⊤}
 use Rattle.um_outside.specs.Scenes.{Scene}
 use Rattle.um_outside.specs.Sinks.{SinkScene, Took, TookFront}
 use Rattle.um_outside.specs.WholeFiles.{ReadFaulted, ReadGivenUp}
-use Rattle.um_deck.specs.declared.fault.Fault.{Fault}
-use Rattle.um_deck.specs.declared.fault.Fault.TheVariants as deck
-use Rattle.umpire.specs.Findings.{unread_deck, unread_tree}
+use Rattle.um_model.specs.Values.{DeckValue}
+use Rattle.um_statements.specs.declared.fault.Fault.TheVariants as deck
+use Rattle.um_mps.specs.declared.reader.ReadFault.{ReadFault}
+use Rattle.umpire.specs.Findings.{HasNoDeck, HasNoTree, IsNoDeckText, unread_tree}
 use Rattle.umpire.specs.Refusals.{refusal_text}
 use Rattle.umpire.specs.declared.ending.Ending.{Ending}
 use Rattle.umpire.specs.declared.ending.Ending.TheVariants.{Refused, Faulted, WithoutMemory}
@@ -18,16 +19,36 @@ use Rattle.umpire.specs.declared.reading.Stop.TheVariants as stop
 
 -- ---- one file
 
--- why the file of this name was not taken: this refusal, after which this holds of the desk; a fault; or want of memory
-abbrev pub FileStopped : List ℕ → Refusal → (Scene → Scene → Type 0) → Stop → Scene → Scene → Type 0
-FileStopped name expected IsRead (stop.Refused r) s t = (r ≡ expected) × IsRead s t
-FileStopped name expected IsRead stop.Fault s t = ReadFaulted name s t
-FileStopped name expected IsRead stop.Memory s t = ReadGivenUp name s t
+-- the refusal of a deck's file, and of a tree's
+abbrev pub RefusesDeck : List ℕ → Refusal → Scene → Scene → Type 0
+RefusesDeck name (refusal.Deck fault) s t = HasNoDeck name fault s t
+RefusesDeck name other s t = ⊥
 
--- a fault of the whole file; want of memory is no refusal
-abbrev pub deck_stop : Fault → Stop
-deck_stop deck.NotYet = stop.Refused (refusal.Deck unread_deck)
-deck_stop deck.Memory = stop.Memory
+abbrev pub RefusesTree : DeckValue → List ℕ → Refusal → Scene → Scene → Type 0
+RefusesTree d name (refusal.Tree fault) s t = (fault ≡ unread_tree) × HasNoTree d name s t
+RefusesTree d name other s t = ⊥
+
+-- why the file of this name was not taken: a refusal, before which this was read; a fault; or want of memory
+abbrev pub FileStopped : List ℕ → (Refusal → Scene → Scene → Type 0) → Stop → Scene → Scene → Type 0
+FileStopped name Refuses (stop.Refused r) s t = Refuses r s t
+FileStopped name Refuses stop.Fault s t = ReadFaulted name s t
+FileStopped name Refuses stop.Memory s t = ReadGivenUp name s t
+
+-- why a deck's bytes are not taken: a refusal, or want of memory
+abbrev pub IsTextRefusal : List ℕ → Refusal → Type 0
+IsTextRefusal bytes (refusal.Deck fault) = IsNoDeckText bytes fault
+IsTextRefusal bytes other = ⊥
+
+abbrev pub TextStopped : List ℕ → Stop → Type 0
+TextStopped bytes (stop.Refused r) = IsTextRefusal bytes r
+TextStopped bytes stop.Fault = ⊥
+TextStopped bytes stop.Memory = ⊤
+
+-- a fault of a text as a cause to stop; want of memory is no refusal
+abbrev pub StopsFor : ReadFault → Stop → Type 0
+StopsFor f (stop.Refused r) = (r ≡ refusal.Deck f) × (f.fault ≢ deck.Memory)
+StopsFor f stop.Fault = ⊥
+StopsFor f stop.Memory = f.fault ≡ deck.Memory
 
 abbrev pub tree_stop : TreeWord → Stop
 tree_stop tree.NotYet = stop.Refused (refusal.Tree unread_tree)

@@ -11,7 +11,7 @@ use Rattle.umpire.specs.declared.tree_text.why.Event.{Event}
 use Rattle.umpire.specs.declared.tree_text.why.WhyWord.{WhyWord}
 use Rattle.umpire.specs.declared.tree_text.why.WhyWord.TheVariants as first
 
--- the first word of a reason
+-- the first word of a cause
 abbrev pub first_word : WhyWord → List ℕ
 first_word first.None = codes "none"
 first_word first.Nodes = codes "nodes"
@@ -43,7 +43,7 @@ event_at bytes =
     then_step (natural_at (2 ^ 32) bytes) (λ number. then_step (natural_at (2 ^ 64) number.1) (λ step. then_step (wide_at step.1) (λ wide.
     Some (record { number = number.0; step = step.0; wide = wide.0 }, wide.1))))
 
--- a reason made of what is read
+-- a cause made of what is read
 abbrev pub caused : {A : Type 0} → (A → Why) → Option (A × List ℕ) → Option (Option Why × List ℕ)
 caused make step = then_step step (λ p. Some (Some (make p.0), p.1))
 

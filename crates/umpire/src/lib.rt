@@ -19,9 +19,11 @@ mod tree_text;
 mod words;
 
 pub use checker::Checker;
-pub use outcome::{Outcome, ReadFault, Refusal, Status, TreeFault, TreeWord, WordFault};
+pub use outcome::{Outcome, Refusal, Status, TreeFault, TreeWord, WordFault};
 pub use top::run;
 pub use um_model::{Reason, Verdict};
+pub use um_mps::ReadFault;
+pub use um_statements::Fault;
 
 #[cfg(test)]
 mod tests;

@@ -4,8 +4,8 @@ ghost use Rattle.umpire.specs.Endings.{status_number};
 ghost use Rattle.std.specs.Prelude.{◌≡◌};
 
 use thiserror::Error;
-use um_deck::Fault;
 use um_model::{Answer, Verdict};
+use um_mps::ReadFault;
 use um_num::Memory;
 use um_text::Unexpected;
 
@@ -58,14 +58,6 @@ pub enum WordFault {
     Line,
 }
 
-/// Why a text is refused as a deck, and at which line, counted from 1. Line 0 is the whole file.
-#[derive(Clone, Copy, PartialEq, Eq, Debug, Error)]
-#[error("{fault} at line {line}")]
-pub struct ReadFault {
-    pub line: u32,
-    pub fault: Fault,
-}
-
 /// Why a text is refused as a tree.
 #[derive(Clone, Copy, PartialEq, Eq, Debug, Error)]
 pub enum TreeWord {
@@ -110,6 +102,8 @@ pub enum Refusal {
     Words(WordFault),
     /// The tolerance asked for is below the least that the deck allows, in thousandths.
     LowTolerance { least: i64 },
+    /// The first rule that a deck's text breaks, and its line. Line 0 is the whole file: it is too
+    /// long, it is empty, or its deck is one that is not solved and checked yet.
     Deck(ReadFault),
     Tree(TreeFault),
 }

@@ -3,10 +3,11 @@
 ghost use Rattle.std.specs.Prelude.{◌≡◌, IfOk, string_bytes};
 ghost use Rattle.umpire.specs.Refusals.{refusal_text, deck_word, tree_word};
 
-use crate::outcome::{ReadFault, Refusal, TreeFault, TreeWord, WordFault};
+use crate::outcome::{Refusal, TreeFault, TreeWord, WordFault};
 use std::alloc::{AllocError, Global};
-use um_deck::Fault;
+use um_mps::ReadFault;
 use um_num::{List, Memory};
+use um_statements::Fault;
 
 /// The line of a refusal: what was refused, why, and for a file at which line.
 pub fn refusal_line(alloc: Global, refusal: &Refusal) -> Result<List<u8>, Memory>
@@ -37,6 +38,35 @@ fn deck_word(fault: Fault) -> &'static str
     ensures { result.now ≡ deck_word fault }
 {
     match fault {
+        Fault::TooLong => "TooLong",
+        Fault::NoEnd => "NoEnd",
+        Fault::UnknownSection => "UnknownSection",
+        Fault::SectionOrder => "SectionOrder",
+        Fault::BadWords => "BadWords",
+        Fault::UnknownKind => "UnknownKind",
+        Fault::BadNumber => "BadNumber",
+        Fault::TooWide => "TooWide",
+        Fault::UnknownRow => "UnknownRow",
+        Fault::UnknownColumn => "UnknownColumn",
+        Fault::TwiceRow => "TwiceRow",
+        Fault::TwiceColumn => "TwiceColumn",
+        Fault::TwiceEntry => "TwiceEntry",
+        Fault::TwiceSet => "TwiceSet",
+        Fault::TwiceMember => "TwiceMember",
+        Fault::NoObjective => "NoObjective",
+        Fault::Marker => "Marker",
+        Fault::SemiInteger => "SemiInteger",
+        Fault::ArcRow => "ArcRow",
+        Fault::TooMany => "TooMany",
+        Fault::TooFine => "TooFine",
+        Fault::TooLarge => "TooLarge",
+        Fault::SemiLower => "SemiLower",
+        Fault::CrossedBounds => "CrossedBounds",
+        Fault::NotFinite => "NotFinite",
+        Fault::LowerNotZero => "LowerNotZero",
+        Fault::ArcInSet => "ArcInSet",
+        Fault::EmptySet => "EmptySet",
+        Fault::TwiceWeight => "TwiceWeight",
         Fault::NotYet => "NotYet",
         Fault::Memory => "Memory",
     }

@@ -226,16 +226,7 @@ fn verdicts(rt: HostRuntime) -> Result<(), Fail> {
 #[test]
 fn refusals(rt: HostRuntime) -> Result<(), Fail> {
     let check = "check deck tree";
-    // A file that is cut anywhere, or too long, is refused by its name.
-    for most in 0..DECK.len() {
-        let told = call(rt.alloc(), check, &DECK[..most], TREE)?;
-        says(
-            &rt,
-            &told,
-            Status::Refused,
-            b"deck refused: NotYet at line 0\n",
-        );
-    }
+    // A tree that is cut anywhere, or too long, is refused by its name.
     for most in 0..TREE.len() {
         let told = call(rt.alloc(), check, DECK, &TREE[..most])?;
         says(
@@ -246,28 +237,21 @@ fn refusals(rt: HostRuntime) -> Result<(), Fail> {
         );
     }
     let long = vec![in rt.alloc(); b' '; 65_537]?;
-    let first = call(rt.alloc(), check, long.as_slice(), TREE)?;
+    let told = call(rt.alloc(), check, DECK, long.as_slice())?;
     says(
         &rt,
-        &first,
-        Status::Refused,
-        b"deck refused: NotYet at line 0\n",
-    );
-    let second = call(rt.alloc(), check, DECK, long.as_slice())?;
-    says(
-        &rt,
-        &second,
+        &told,
         Status::Refused,
         b"tree refused: NotYet at line 0\n",
     );
 
     // A deck is refused before the tree is looked for.
-    let told = call(rt.alloc(), "check deck none", &DECK[1..], TREE)?;
+    let told = call(rt.alloc(), "check deck none", b"", TREE)?;
     says(
         &rt,
         &told,
         Status::Refused,
-        b"deck refused: NotYet at line 0\n",
+        b"deck refused: NoEnd at line 0\n",
     );
 
     for line in [
@@ -304,8 +288,8 @@ fn named(alloc: Global, length: usize) -> Result<(String, String), Fail> {
 
 #[test]
 fn sizes(rt: HostRuntime) -> Result<(), Fail> {
-    // Decks of 65,536 bytes and of one more.
-    let (deck, tree) = named(rt.alloc(), 65389)?;
+    // Trees of 65,536 bytes and of one more.
+    let (deck, tree) = named(rt.alloc(), 65398)?;
     let told = call(
         rt.alloc(),
         "check deck tree",
@@ -313,7 +297,7 @@ fn sizes(rt: HostRuntime) -> Result<(), Fail> {
         tree.as_bytes(),
     )?;
     says(&rt, &told, Status::Optimal, b"yes\n");
-    let (deck, tree) = named(rt.alloc(), 65390)?;
+    let (deck, tree) = named(rt.alloc(), 65399)?;
     let told = call(
         rt.alloc(),
         "check deck tree",
@@ -324,7 +308,7 @@ fn sizes(rt: HostRuntime) -> Result<(), Fail> {
         &rt,
         &told,
         Status::Refused,
-        b"deck refused: NotYet at line 0\n",
+        b"tree refused: NotYet at line 0\n",
     );
     Ok(())
 }

@@ -10,10 +10,10 @@ ghost use Rattle.umpire.specs.FirstTrees.{IsFirstTree, is_one_word, is_name_byte
 ghost use Rattle.umpire.specs.TreeReading.{IsRefused, Steps, Reads, Gives, tolerance_from, count_at, counts_at, deck_at, tolerance_at};
 ghost use Rattle.um_treetext.specs.TreeText.{tree_text};
 
-pub mod leaf;
-pub mod numbers;
-pub mod parts;
-pub mod why;
+mod leaf;
+mod numbers;
+mod parts;
+mod why;
 
 use crate::outcome::TreeWord;
 use crate::tree_text::leaf::read_leaf;
@@ -90,7 +90,7 @@ fn do_fields_go(head: &Head, point: bool) -> bool
         )
 }
 
-/// Whether a reason is there exactly for the kinds that have one, and goes with the kind.
+/// Whether a cause is there exactly for the kinds that have one, and goes with the kind.
 fn does_why_go(kind: AnswerKind, why: Option<Why>) -> bool
     ensures { result ≡ does_why_go kind why }
 {

@@ -113,8 +113,8 @@ fn deck_of(alloc: Global, text: &[u8]) -> Result<Deck, Fail>
     ensures no_sets_or_arcs { IfOk result HasNoSetsOrArcs }
     ensures rows { IfOk result (λ deck. 1 ≤ length deck.rows) }
 {
-    let deck = um_deck::first(alloc, text)?;
-    if deck.rows().len() < 1 {
+    let deck = um_mps::read(alloc, text)?;
+    if !um_search::is_searched(&deck) || deck.rows().len() < 1 {
         return Err(Memory.into());
     }
     Ok(deck)

@@ -1,10 +1,10 @@
 //! `solve DECK` and `solve DECK --tree FILE`: the answer to a deck, with the tree that proves it.
 
 ghost use Rattle.std.specs.Prelude.{◌≡◌, false, [], ◌∷◌, map, option_map, string_bytes, IfOk, IfErr};
-ghost use Rattle.um_deck.specs.PlainDecks.{IsFirstDeck};
 ghost use Rattle.um_model.specs.AnswerValues.{plain_answer};
 ghost use Rattle.um_model.specs.Checkable.{IsCheckable};
 ghost use Rattle.um_outside.specs.Scenes.{Idle};
+ghost use Rattle.um_search.specs.Conditions.{IsSearched};
 ghost use Rattle.umpire.specs.Findings.{Answers};
 ghost use Rattle.umpire.specs.SolveRuns.{solve_of, names_of, HasSolved, SolveRan, SolveStopped};
 ghost use Rattle.umpire.specs.Stops.{SaidOrCut};
@@ -134,7 +134,7 @@ fn find<D: Desk>(alloc: Global, desk: &mut D, files: &SolveFiles<'_>) -> Result<
 
 /// The answer to a deck, within the program's own budget. The error is want of memory.
 fn answer_to(alloc: Global, deck: &Deck) -> Result<Answer, Memory>
-    requires { IsFirstDeck deck.now }
+    requires { IsSearched deck.now }
     ensures answers { IfOk result (λ answer. Answers deck.now (plain_answer answer)) }
     ensures checkable { IfOk result (λ answer. IsCheckable deck.now (plain_answer answer)) }
 {

@@ -1,4 +1,4 @@
-//! Decks of different shapes, each with the tree of its answer, and texts that are damaged.
+//! Decks of different shapes, each with the tree of its answer, and texts that are changed.
 //!
 //! The decks and trees were worked out beforehand, by the same rules.
 
@@ -92,44 +92,83 @@ pub(super) const DECKS: [(&str, &str); 20] = [
     ),
 ];
 
-/// What stands in the deck, and what takes its place.
-const DAMAGED_DECKS: [(&str, &str); 29] = [
-    ("NAME ROW1", "NAME  ROW1"),
-    ("NAME ROW1", "NAME\tROW1"),
-    ("NAME ROW1\n", "NAME\n"),
-    ("NAME ROW1\n", " NAME ROW1\n"),
-    ("ROWS\n", "ROWS \n"),
-    (" L R1\n", " G R1\n"),
-    (" L R1\n", ""),
-    (" L R1\n", " L R1\n L R1\n"),
-    (" x COST -1\n", " x COST +1\n"),
-    (" x COST -1\n", " x COST -01\n"),
-    (" x COST -1\n", " x COST -1e0\n"),
-    (" x COST -1\n", " x COST -1.0\n"),
-    (" x COST -1\n", " x COST -0\n"),
-    (" x COST -1\n", " x COST 0\n"),
-    (" x R1 1\n", " x R1 1\n x R1 1\n"),
-    (" x R1 1\n", " x R2 1\n"),
-    (" x COST -1\n x R1 1\n", " x R1 1\n x COST -1\n"),
-    (" RHS R1 4\n", " RHS R1 4\r\n"),
-    (" RHS R1 4\n", " RHS R1 0\n"),
-    (" RHS R1 4\n", " RHS R1 4 R1 4\n"),
-    (" LO BND x 0\n", ""),
-    (" UP BND x 3\n", " UP BND x 3.5\n"),
-    (" UP BND x 3\n", " UP BND x -1\n"),
-    (" UP BND x 3\n", " UP BND x 10000001\n"),
+/// min -5x - 4y; 6x + 4y <= 24; x + 2y <= 6; integers in [0,10].
+const ROW2: &[u8] =
+    b"NAME ROW2\nROWS\n N COST\n L R1\n L R2\nCOLUMNS\n M1 'MARKER' 'INTORG'\n x COST -5 R1 6\n x R2 1\n y COST -4 R1 4\n y R2 2\n M2 'MARKER' 'INTEND'\nRHS\n RHS R1 24 R2 6\nBOUNDS\n UP BND x 10\n UP BND y 10\nENDATA\n";
+
+const YES: &str = "yes\n";
+
+/// A deck, what stands in it, what takes its place, and what is said of the deck with a tree for it.
+const CHANGED_DECKS: [(&[u8], &str, &str, &str); 15] = [
+    (DECK, "NAME ROW1\n", "* a deck\n\nNAME  ROW1 two\n", YES),
+    (DECK, " RHS R1 4\n", "\tR1\t4.00\r\n", YES),
+    (DECK, " LO BND x 0\n", "", YES),
+    (DECK, "ENDATA\n", "ENDATA\nNAME", YES),
     (
-        "RHS\n RHS R1 4\nBOUNDS\n LO BND x 0\n UP BND x 3\n LO BND y 0\n UP BND y 2\n",
-        "BOUNDS\n LO BND x 0\n UP BND x 3\n LO BND y 0\n UP BND y 2\nRHS\n RHS R1 4\n",
+        DECK,
+        " x R1 1\n",
+        " x R1 1 2\n",
+        "deck refused: BadWords at line 7\n",
     ),
-    ("ENDATA\n", "ENDATA"),
-    ("ENDATA\n", "ENDATA\n\n"),
-    ("ENDATA\n", ""),
-    ("ENDATA\n", "* end\nENDATA\n"),
+    (
+        DECK,
+        " x R1 1\n",
+        " x R1 0.1234567\n",
+        "deck refused: TooFine at line 17\n",
+    ),
+    (
+        DECK,
+        " UP BND x 3\n",
+        " UP BND x 10000001\n",
+        "deck refused: TooLarge at line 14\n",
+    ),
+    (
+        DECK,
+        " UP BND x 3\n",
+        " UP BND x 1e30\n",
+        "deck refused: NotYet at line 0\n",
+    ),
+    (
+        DECK,
+        " UP BND x 3\n",
+        " SC BND x 3\n",
+        "deck refused: NotYet at line 14\n",
+    ),
+    (
+        ROW2,
+        " L R1\n",
+        " L R1\n",
+        "deck refused: NotYet at line 0\n",
+    ),
+    (
+        ROW2,
+        "ENDATA\n",
+        "SOS\nENDATA\n",
+        "deck refused: NotYet at line 18\n",
+    ),
+    (ROW2, "ENDATA\n", "", "deck refused: NoEnd at line 17\n"),
+    (
+        ROW2,
+        " UP BND x 10\n",
+        "",
+        "deck refused: NotFinite at line 17\n",
+    ),
+    (
+        ROW2,
+        " x R2 1\n",
+        " x R1 1\n",
+        "deck refused: TwiceEntry at line 9\n",
+    ),
+    (
+        ROW2,
+        "RHS\n",
+        "RHZ\n",
+        "deck refused: UnknownSection at line 13\n",
+    ),
 ];
 
-/// The same of the tree.
-const DAMAGED_TREES: [(&str, &str); 38] = [
+/// What stands in the tree, and what takes its place.
+const CHANGED_TREES: [(&str, &str); 38] = [
     ("TREE 1", "TREE 2"),
     ("UMPIRE TREE", "UMPIRE  TREE"),
     ("DECK ROW1 1", "DECK ROW2 1"),
@@ -188,7 +227,7 @@ fn shapes(rt: HostRuntime) -> Result<(), Fail> {
 }
 
 /// The text with these bytes in the place of those.
-fn damaged(alloc: Global, text: &[u8], old: &str, new: &str) -> Result<String, Fail> {
+fn changed(alloc: Global, text: &[u8], old: &str, new: &str) -> Result<String, Fail> {
     let whole = String::from_utf8_lossy(alloc, text)?;
     match whole.split_once(old) {
         Some((front, rest)) => Ok(format!(in alloc; "{front}{new}{rest}")?),
@@ -197,21 +236,20 @@ fn damaged(alloc: Global, text: &[u8], old: &str, new: &str) -> Result<String, F
 }
 
 #[test]
-fn damages(rt: HostRuntime) -> Result<(), Fail> {
-    let check = "check deck tree";
-    for (old, new) in DAMAGED_DECKS {
-        let deck = damaged(rt.alloc(), DECK, old, new)?;
-        let told = call(rt.alloc(), check, deck.as_bytes(), TREE)?;
-        says(
-            &rt,
-            &told,
-            Status::Refused,
-            b"deck refused: NotYet at line 0\n",
-        );
+fn changes(rt: HostRuntime) -> Result<(), Fail> {
+    for (text, old, new, line) in CHANGED_DECKS {
+        let deck = changed(rt.alloc(), text, old, new)?;
+        let told = call(rt.alloc(), "check deck tree", deck.as_bytes(), TREE)?;
+        let status = if line == YES {
+            Status::Optimal
+        } else {
+            Status::Refused
+        };
+        says(&rt, &told, status, line.as_bytes());
     }
-    for (old, new) in DAMAGED_TREES {
-        let tree = damaged(rt.alloc(), TREE, old, new)?;
-        let told = call(rt.alloc(), check, DECK, tree.as_bytes())?;
+    for (old, new) in CHANGED_TREES {
+        let tree = changed(rt.alloc(), TREE, old, new)?;
+        let told = call(rt.alloc(), "check deck tree", DECK, tree.as_bytes())?;
         says(
             &rt,
             &told,

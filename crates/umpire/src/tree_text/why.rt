@@ -10,7 +10,7 @@ use um_model::Why;
 use um_num::{Op, Wide};
 use um_text::Cursor;
 
-/// The first word of a reason.
+/// The first word of a cause.
 #[derive(Clone, Copy, PartialEq, Eq, Debug)]
 pub enum WhyWord {
     None,
@@ -84,7 +84,7 @@ fn why_named(word: &[u8]) -> Result<WhyWord, TreeWord>
     Err(TreeWord::NotYet)
 }
 
-/// What follows the first word of a reason.
+/// What follows the first word of a cause.
 fn read_cause(cursor: &mut Cursor<'_>, word: WhyWord) -> Result<Option<Why>, TreeWord>
     ensures { Reads (λ why. why) result (cause_at word cursor.old) cursor.new }
 {
