@@ -24,6 +24,7 @@ few_entries rows (e ∷ es) rise each = omega (arith, row_from (e ∷ es) rise (
 small_column : (rows : ℕ) (c : ColumnValue) → rows ≤ 512 → IsColumn rows c → IsSmallColumn c
 small_column rows c few h = record {
   few = omega (arith, few_entries rows c.entries h.rise h.entries, few);
+  rows = λ k d l. omega (arith, (h.entries k d l).row, few);
   entries = λ k d l. (h.entries k d l).size;
   cost = h.cost;
 }

@@ -1,7 +1,9 @@
 pub mod ArcSums
 pub mod DeckSizes
+pub mod EntrySums
 pub mod ObjectiveParts
 pub mod PlaceLemmas
 pub mod Quotients
+pub mod RowSteps
 pub mod Thresholds
 pub mod SetRules

@@ -1,3 +1,4 @@
 pub mod MemberParts
 pub mod Places
+pub mod RowSums
 pub mod SmallPoints

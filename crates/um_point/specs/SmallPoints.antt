@@ -15,8 +15,9 @@ pub record IsSmallPoint (d : DeckValue) (p : PointValue) : Type 0 where
   pub parts : length p.parts ≡ length d.columns
   pub part_sizes : All IsSmall p.parts
 
--- a column of at most 512 entries, none of them and no cost above 2^31 in size
+-- a column of at most 512 entries in rows below 512, none of them and no cost above 2^31 in size
 pub record IsSmallColumn (c : ColumnValue) : Type 0 where
   pub few : length c.entries ≤ 512
+  pub rows : All (λ (e : Entry). e.row < 512) c.entries
   pub entries : All (λ (e : Entry). IsWithin (2 ^ 31) e.value) c.entries
   pub cost : IsWithin (2 ^ 31) c.cost

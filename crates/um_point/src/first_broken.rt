@@ -1,19 +1,21 @@
 //! The first part of a deck that a point breaks.
 
-ghost use Rattle.std.specs.Prelude.{◌≡◌, length, IsNone, IfSome, ◌↔◌};
+ghost use Rattle.std.specs.Prelude.{◌≡◌, ◌≤◌, length, IsNone, IfSome, ◌↔◌};
 ghost use Rattle.um_model.specs.Values.{plain_point};
 ghost use Rattle.um_model.specs.Feasible.{AllPlaces, RowHolds, EndsHold, IntegerHolds, SemiHolds, SetHolds, Feasible};
 ghost use Rattle.um_model.specs.FirstBroken.{IsFirstFailure, IsFirstBroken};
 ghost use Rattle.um_point.specs.SmallPoints.{IsSmallPoint};
 
 use crate::columns::{ends_hold, integer_holds, semi_holds};
+use crate::row_sums::row_sums;
 use crate::rows::row_holds;
 use crate::sets::set_holds;
 use um_deck::Deck;
 use um_model::{Broken, Point};
 
 fn row_count(deck: &Deck) -> u32
-    ensures { result ≡ length deck.now.rows }
+    ensures count { result ≡ length deck.now.rows }
+    ensures few { result ≤ 512 }
 {
     deck.known();
     deck.rows().len() as u32
@@ -38,8 +40,9 @@ fn first_broken_row(deck: &Deck, point: &Point) -> Option<u32>
     ensures none { IsNone result ↔ AllPlaces (RowHolds deck.now (plain_point point.now)) deck.now.rows }
     ensures first { IfSome result (IsFirstFailure (RowHolds deck.now (plain_point point.now)) deck.now.rows) }
 {
+    let sums = row_sums(deck, point);
     for row in 0..row_count(deck) {
-        if !row_holds(deck, point, row) {
+        if !row_holds(deck, point, row, &sums[row as usize]) {
             return Some(row);
         }
     }

@@ -5,11 +5,15 @@
 //!
 //! Sums are never divided. A side of a row is compared as the side times the square of the
 //! denominator, and an end of a column as the end times the denominator.
+//!
+//! A call walks once over the entries, and once over the arcs. `feasible` adds up the sums of all rows
+//! together, in an array of 8 KiB on the stack.
 #![tactic(auto)]
 
 mod columns;
 mod first_broken;
 mod quotient;
+mod row_sums;
 mod rows;
 mod sets;
 mod sums;

@@ -54,7 +54,7 @@ fn costs(deck: &Deck, point: &Point) -> i128
 fn squares(deck: &Deck, point: &Point) -> i128
     requires { IsSmallPoint deck.now (plain_point point.now) }
     ensures value { result ≡ square_sum deck.now None (plain_point point.now).parts }
-    ensures size { IsWithin (2 ^ 108) result }
+    ensures size { IsWithin (2 ^ 118) result }
 {
     deck.known();
     square_sum(deck.arcs(), point.parts.as_slice())
