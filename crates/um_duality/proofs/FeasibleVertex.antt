@@ -1,14 +1,14 @@
--- The vertex of a board that has ended on the root box is feasible, where all columns are continuous.
+-- The vertex of a board that has ended on a box satisfies the rows and lies within the ends of the box.
 use Rattle.std.proofs.Common.{◌≡◌, ◌≢◌, ℕ, ◌+◌, ◌<◌, arith, ap, sym, subst, ◌∙◌, refl, List, [], ◌∷◌, length, Bool, false, cond}
-use Rattle.std.specs.Prelude.{ℤ, pos, ◌+ℤ◌, ◌*ℤ◌, ◌≤ℤ◌, slice_index_or, All, Option, Some, None}
+use Rattle.std.specs.Prelude.{ℤ, pos, ◌+ℤ◌, ◌*ℤ◌, ◌≤ℤ◌, slice_index_or, Option, Some, None}
 use Rattle.std.specs.List.{list_any, enumerate_from}
 use Rattle.std.proofs.lemmas.Int.{ints}
 use Rattle.um_laws.specs.Rational.{Rational, whole, add, mul, neg}
 use Rattle.um_laws.proofs.RationalOrder.{IsNonNegative, IsPositive, nonneg-mul}
 use Rattle.um_laws.proofs.Ring.{var, unit, ◌⊕◌, ◌⊗◌, opp}
 use Rattle.um_model.specs.Values.{DeckValue, ColumnValue, SetValue, PointValue}
-use Rattle.um_model.specs.Boxes.{BoxValue, Ends, free, root, ends_at, span_at, is_outside, is_shut_out}
-use Rattle.um_model.specs.Feasible.{part, AllPlaces, linear_sum, row_times, coefficient, EndsHold, RowHolds, Feasible}
+use Rattle.um_model.specs.Boxes.{BoxValue, Ends, free, root, ends_at, ends_of, span_at, is_outside, is_shut_out}
+use Rattle.um_model.specs.Feasible.{part, AllPlaces, Between, linear_sum, row_times, coefficient, RowHolds}
 use Rattle.um_model.specs.declared.deck.Row.{Row}
 use Rattle.um_model.specs.declared.deck.Kind.TheVariants.{Continuous, Integer, Semi}
 use Rattle.um_laws.proofs.Places.{get_of, at_map}
@@ -23,7 +23,7 @@ use Rattle.um_laws.proofs.RationalEquations.{by_ring}
 use Rattle.um_lp.proofs.Denominators.{denominator_positive}
 use Rattle.um_lp.proofs.Orders.{whole_difference}
 use Rattle.um_lp.proofs.Solutions.{tableau-solutions-law}
-use Rattle.um_duality.specs.Laws.{IsOnBox, VertexLaw}
+use Rattle.um_duality.specs.Laws.{IsOnBox, HoldsOnBox, VertexLaw, ContinuousLaw}
 use Rattle.um_duality.specs.Boxed.{row_ends, ends_on}
 use Rattle.um_duality.specs.Relaxed.{side_end}
 use Rattle.um_duality.specs.Readings.{natural_values, vertex}
@@ -85,21 +85,20 @@ at_most-times a b k x y h e f p =
 no_set_there : (d : DeckValue) (b : BoxValue) (column : ℕ) → d.sets ≡ [] → is_shut_out d b column ≡ false
 no_set_there d b column e = ap (λ (ss : List SetValue). list_any (λ (s : ℕ × SetValue). is_outside (span_at b s.0) s.1 column) (enumerate_from 0 ss)) e
 
-root-ends : (d : DeckValue) (j : ℕ) (default : ColumnValue) → d.sets ≡ [] → j < length d.columns → ends_on d (root d) j ≡ ((slice_index_or d.columns j default).low, (slice_index_or d.columns j default).high)
+root-ends : (d : DeckValue) (j : ℕ) (default : ColumnValue) → d.sets ≡ [] → j < length d.columns → ends_of d (root d) j ≡ record { low = (slice_index_or d.columns j default).low; high = (slice_index_or d.columns j default).high }
 root-ends d j default e l =
     let b : BoxValue = root d in
-    let c : ColumnValue = slice_index_or d.columns j default in
-    ends-column d b j l
-    ∙ ap (λ (x : Ends). (x.low, x.high))
-    (ap (λ (t : Bool). cond t (record { low = (ends_at b j).low; high = Some (pos 0) }) (ends_at b j)) (no_set_there d b j e)
-    ∙ at_map (λ (c : ColumnValue). record { low = c.low; high = c.high }) d.columns j default free l)
+    ap (λ (t : Bool). cond t (record { low = (ends_at b j).low; high = Some (pos 0) }) (ends_at b j)) (no_set_there d b j e)
+    ∙ at_map (λ (c : ColumnValue). record { low = c.low; high = c.high }) d.columns j default free l
 
-root-sides : (d : DeckValue) (i : ℕ) (default : Row) → i < length d.rows → ends_on d (root d) (length d.columns + i) ≡ (side_end (slice_index_or d.rows i default).low, side_end (slice_index_or d.rows i default).high)
-root-sides d i default l = ends-slack d (root d) i ∙ ap row_ends (get_of d.rows i default l)
+-- ---- the sides of rows
+
+row-sides : (d : DeckValue) (b : BoxValue) (i : ℕ) (default : Row) → i < length d.rows → ends_on d b (length d.columns + i) ≡ (side_end (slice_index_or d.rows i default).low, side_end (slice_index_or d.rows i default).high)
+row-sides d b i default l = ends-slack d b i ∙ ap row_ends (get_of d.rows i default l)
 
 -- ---- the vertex
 
-module _ (d : DeckValue) (s : State) (on : IsOnBox d (root d) s) (ended : IsNext s Ended) where
+module _ (d : DeckValue) (b : BoxValue) (s : State) (on : IsOnBox d b s) (ended : IsNext s Ended) where
   abbrev p : PointValue
   p = vertex s
 
@@ -149,11 +148,10 @@ module _ (d : DeckValue) (s : State) (on : IsOnBox d (root d) s) (ended : IsNext
       ∙ ap (λ (x : Rational). mul x (mul Q (value_of s j))) thousand-times
       ∙ by_ring (mul Q (value_of s j) ∷ []) (unit ⊗ var 0) (var 0) refl
 
-  ends-hold : AllPlaces (EndsHold p) d.columns
-  ends-hold j default l =
-      let c : ColumnValue = slice_index_or d.columns j default in
+  ends-hold : (j : ℕ) → j < n → Between (ends_of d b j).low (ends_of d b j).high p.den (pos 1000 *ℤ part p.parts j)
+  ends-hold j l =
       let q : j < width s.frame = omega (arith, width-is d s on.stands) in
-      let h : IsInside (c.low, c.high) (value_of s j) = subst (λ (x : Option ℤ × Option ℤ). IsInside x (value_of s j)) (on.boxed j q ∙ root-ends d j default on.sets l) (inside j q) in
+      let h : IsInside ((ends_of d b j).low, (ends_of d b j).high) (value_of s j) = subst (λ (x : Option ℤ × Option ℤ). IsInside x (value_of s j)) (on.boxed j q ∙ ends-column d b j l) (inside j q) in
       record {
         above = λ x e. at_most-times (x *ℤ p.den) (pos 1000 *ℤ part p.parts j) Q (whole x) (value_of s j) Q_not_below (end-is x) (value-is j l) (h.low x e);
         below = λ x e. at_most-times (pos 1000 *ℤ part p.parts j) (x *ℤ p.den) Q (value_of s j) (whole x) Q_not_below (value-is j l) (end-is x) (h.high x e);
@@ -189,22 +187,27 @@ module _ (d : DeckValue) (s : State) (on : IsOnBox d (root d) s) (ended : IsNext
   rows-hold i default l =
       let r : Row = slice_index_or d.rows i default in
       let q : n + i < width s.frame = omega (arith, width-is d s on.stands) in
-      let h : IsInside (side_end r.low, side_end r.high) (value_of s (n + i)) = subst (λ (x : Option ℤ × Option ℤ). IsInside x (value_of s (n + i))) (on.boxed (n + i) q ∙ root-sides d i default l) (inside (n + i) q) in
+      let h : IsInside (side_end r.low, side_end r.high) (value_of s (n + i)) = subst (λ (x : Option ℤ × Option ℤ). IsInside x (value_of s (n + i))) (on.boxed (n + i) q ∙ row-sides d b i default l) (inside (n + i) q) in
       record {
         above = λ x e. at_most-times (x *ℤ (p.den *ℤ p.den)) (row_times d p i) scale (whole (pos 1000 *ℤ x)) (value_of s (n + i)) scale_not_below (side-is x) (times-is i l) (h.low (pos 1000 *ℤ x) (ap side_end e));
         below = λ x e. at_most-times (row_times d p i) (x *ℤ (p.den *ℤ p.den)) scale (value_of s (n + i)) (whole (pos 1000 *ℤ x)) scale_not_below (times-is i l) (side-is x) (h.high (pos 1000 *ℤ x) (ap side_end e));
       }
 
-  feasible : All (λ (c : ColumnValue). c.kind ≡ Continuous) d.columns → Feasible d p
-  feasible continuous = record {
-    den = den_above;
-    parts = parts-length s on.board.shape ∙ columns-is d s on.stands;
-    rows = rows-hold;
-    ends = ends-hold;
-    integers = λ j default l e. (let f : Continuous ≡ Integer = sym (continuous j default l) ∙ e in absurd (cc));
-    semis = λ j default l threshold e. (let f : Continuous ≡ Semi threshold = sym (continuous j default l) ∙ e in absurd (cc));
-    sets = λ j default l. (let f : length d.sets ≡ 0 = ap (λ (ss : List SetValue). length ss) on.sets in absurd (omega arith));
-  }
+  holds : HoldsOnBox d b p
+  holds = record { den = den_above; parts = parts-length s on.board.shape ∙ columns-is d s on.stands; rows = rows-hold; ends = ends-hold }
 
 pub vertex-law : VertexLaw
-vertex-law d s on ended continuous = feasible d s on ended continuous
+vertex-law d b s on ended = holds d b s on ended
+
+-- ---- points of the root box
+
+pub continuous-law : ContinuousLaw
+continuous-law d p no_sets continuous h = record {
+  den = h.den;
+  parts = h.parts;
+  rows = h.rows;
+  ends = λ j default l. subst (λ (x : Ends). Between x.low x.high p.den (pos 1000 *ℤ part p.parts j)) (root-ends d j default no_sets l) (h.ends j l);
+  integers = λ j default l e. (let f : Continuous ≡ Integer = sym (continuous j default l) ∙ e in absurd (cc));
+  semis = λ j default l threshold e. (let f : Continuous ≡ Semi threshold = sym (continuous j default l) ∙ e in absurd (cc));
+  sets = λ j default l. (let f : length d.sets ≡ 0 = ap (λ (ss : List SetValue). length ss) no_sets in absurd (omega arith));
+}

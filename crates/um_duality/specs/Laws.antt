@@ -1,9 +1,9 @@
 -- What a board that has ended says of the deck.
-use Rattle.std.specs.Prelude.{◌≡◌, ℕ, ℤ, [], All}
-use Rattle.um_model.specs.Values.{DeckValue, ColumnValue}
+use Rattle.std.specs.Prelude.{◌≡◌, ℕ, ◌<◌, ℤ, pos, ◌*ℤ◌, ◌≤ℤ◌, [], length, All}
+use Rattle.um_model.specs.Values.{DeckValue, ColumnValue, PointValue}
 use Rattle.um_multipliers.specs.PlainMultipliers.{MultipliersValue}
-use Rattle.um_model.specs.Boxes.{BoxValue, root}
-use Rattle.um_model.specs.Feasible.{Feasible}
+use Rattle.um_model.specs.Boxes.{BoxValue, root, ends_of}
+use Rattle.um_model.specs.Feasible.{part, AllPlaces, Between, RowHolds, Feasible}
 use Rattle.um_model.specs.Objective.{objective}
 use Rattle.um_model.specs.LeafValue.{leaf_value, leaf_bound, Empties}
 use Rattle.um_model.specs.declared.deck.Kind.TheVariants.{Continuous}
@@ -15,18 +15,28 @@ use Rattle.um_duality.specs.Relaxed.{StandsFor}
 use Rattle.um_duality.specs.Boxed.{IsBoxed}
 use Rattle.um_duality.specs.Readings.{multipliers, vertex, AreFarkas}
 
--- a board of a deck without sets and arcs, with the ends of the box, dual feasible
+-- a board of a deck without arcs, with the ends of the box, dual feasible
 pub record IsOnBox (d : DeckValue) (b : BoxValue) (s : State) : Type 0 where
-  pub sets : d.sets ≡ []
   pub arcs : d.arcs ≡ []
   pub board : IsBoard s
   pub stands : StandsFor d s
   pub boxed : IsBoxed d b s
   pub feasible : IsDualFeasible s
 
--- Where every basic column is within its ends on the root box, and all columns are continuous, the vertex is feasible.
+-- the point has a part for each column, satisfies the rows, and each column's value lies within the ends that the box gives it
+pub record HoldsOnBox (d : DeckValue) (b : BoxValue) (p : PointValue) : Type 0 where
+  pub den : pos 1 ≤ℤ p.den
+  pub parts : length p.parts ≡ length d.columns
+  pub rows : AllPlaces (RowHolds d p) d.rows
+  pub ends : (column : ℕ) → column < length d.columns → Between (ends_of d b column).low (ends_of d b column).high p.den (pos 1000 *ℤ part p.parts column)
+
+-- Where every basic column is within its ends, the vertex satisfies the rows and lies within the ends of the box.
 abbrev pub VertexLaw : Type 0
-VertexLaw = (d : DeckValue) (s : State) → IsOnBox d (root d) s → IsNext s Ended → All (λ (c : ColumnValue). c.kind ≡ Continuous) d.columns → Feasible d (vertex s)
+VertexLaw = (d : DeckValue) (b : BoxValue) (s : State) → IsOnBox d b s → IsNext s Ended → HoldsOnBox d b (vertex s)
+
+-- Within the ends of the root box, a point that satisfies the rows is feasible where all columns are continuous and no set is there.
+abbrev pub ContinuousLaw : Type 0
+ContinuousLaw = (d : DeckValue) (p : PointValue) → d.sets ≡ [] → All (λ (c : ColumnValue). c.kind ≡ Continuous) d.columns → HoldsOnBox d (root d) p → Feasible d p
 
 -- The leaf's value under the multipliers has an end, and its bound is the objective of the vertex. This holds of every dual feasible basis: where the run has ended, a feasible point meets the bound.
 abbrev pub StrongDualityLaw : Type 0

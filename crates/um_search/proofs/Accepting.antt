@@ -22,8 +22,8 @@ use Rattle.um_point.specs.SmallPoints.{IsSmallPoint as IsSmall}
 use Rattle.um_lp.specs.States.{State}
 use Rattle.um_lp.proofs.Denominators.{denominator_positive}
 use Rattle.um_duality.specs.Laws.{IsOnBox}
-use Rattle.um_duality.specs.Readings.{multipliers, slack_costs}
-use Rattle.um_duality.proofs.FeasibleVertex.{vertex-law}
+use Rattle.um_duality.specs.Readings.{multipliers, slack_costs, vertex}
+use Rattle.um_duality.proofs.FeasibleVertex.{vertex-law, continuous-law}
 use Rattle.um_duality.proofs.StrongDuality.{strong-duality-law}
 use Rattle.um_duality.proofs.NoPoint.{farkas-law}
 use Rattle.um_search.specs.Conditions.{IsSearched}
@@ -50,7 +50,7 @@ bound_of_one None = inr (0, omega arith, refl)
 bound_of_one (Some x) = self_least x
 
 on_box : (d : DeckValue) (pivots : ℕ) (s : State) → HasNoSetsOrArcs d → IsRun d pivots s → IsOnBox d (root d) s
-on_box d pivots s without run = record { sets = without.sets; arcs = without.arcs; board = run.board; stands = run_stands d pivots s run; boxed = run.on; feasible = run.feasible }
+on_box d pivots s without run = record { arcs = without.arcs; board = run.board; stands = run_stands d pivots s run; boxed = run.on; feasible = run.feasible }
 
 pub positive_multipliers : (s : State) → pos 0 <ℤ (multipliers s).y0
 positive_multipliers s = let h = denominator_positive (slack_costs s) in omega (arith, ints)
@@ -68,7 +68,7 @@ pub record Meets (d : DeckValue) (p : PointValue) (y : MultipliersValue) : Type 
 pub meets : (d : DeckValue) (pivots : ℕ) (p : PointValue) (y : MultipliersValue) → IsDeck d → IsSearched d → AtVertex d pivots p y → Meets d p y
 meets d pivots p y formed searched h =
     let on = on_box d pivots h.state searched.no_sets_or_arcs h.run in
-    let feasible = vertex-law d h.state on h.ended (each_continuous d searched) in
+    let feasible = continuous-law d (vertex h.state) searched.no_sets_or_arcs.sets (each_continuous d searched) (vertex-law d (root d) h.state on h.ended) in
     let (value, value_is, bound_is) = strong-duality-law d (root d) h.state on in
     record {
       feasible = subst (Feasible d) (sym h.point) feasible;
