@@ -1,24 +1,30 @@
 //! The scripts, told and compared.
 
 mod bounds;
+mod boxes;
 mod calls;
 mod limits;
 mod numbers;
 mod order;
+mod points;
 mod script;
 mod shown;
 
 use bounds::BOUNDS;
+use boxes::{NESTS, deck_of, is_shown, steps_hold};
 use calls::CALLS;
 use limits::LIMITS;
 use numbers::NUMBERS;
 use order::ORDER;
+use points::{POINTS, is_small_point};
 use script::tell;
 use shown::Shown;
 use std::alloc::Global;
 use std::test::Fail;
+use um_box::NodeBox;
 use um_maker::{DeckMaker, Fault};
-use um_num::Memory;
+use um_num::{List, Memory};
+use um_point::{Point, feasible, objective};
 
 #[test]
 fn scripts(rt: HostRuntime) -> Result<(), Fail> {
@@ -57,4 +63,38 @@ fn outcome(alloc: Global, script: &[u8]) -> Result<Shown, Memory> {
         Err(fault) => shown.put_fault(fault)?,
     }
     Ok(shown)
+}
+
+#[test]
+fn points_of_decks(rt: HostRuntime) -> Result<(), Fail> {
+    for (script, cases) in POINTS {
+        let deck = deck_of(rt.alloc(), script.as_bytes()).expect(&rt, "a deck");
+        for (den, parts, broken, num, over) in *cases {
+            let parts = List::from_slice(rt.alloc(), parts)?;
+            let point = Point { den: *den, parts };
+            assert!(rt; is_small_point(&deck, &point));
+            assert!(rt;
+                feasible(&deck, &point) == *broken,
+                "{broken:?} of {script}"
+            );
+            let value = objective(&deck, &point);
+            assert!(rt;
+                value.num() == *num && value.den() == *over,
+                "{num} of {script}"
+            );
+        }
+    }
+    Ok(())
+}
+
+#[test]
+fn nests_of_boxes(rt: HostRuntime) -> Result<(), Fail> {
+    for (script, root, steps) in NESTS {
+        let deck = deck_of(rt.alloc(), script.as_bytes()).expect(&rt, "a deck");
+        let mut node = NodeBox::root(rt.alloc(), &deck)?;
+        assert!(rt; is_shown(rt.alloc(), &node, root.as_bytes())?, "{root}");
+        let holds = steps_hold(rt.alloc(), &mut node, steps)?;
+        assert!(rt; holds, "{script}");
+    }
+    Ok(())
 }

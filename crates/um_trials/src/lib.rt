@@ -1,4 +1,4 @@
-//! Tests of boards, and of points, bounds, reports and runs on decks that are read from their texts.
+//! Tests of boards, and of bounds, reports and runs on decks that are read from their texts.
 //!
 //! They stand apart, so that the crates that they try need not wait for the reader of decks.
 #![tactic(auto)]
@@ -7,8 +7,6 @@
 mod boards;
 #[cfg(test)]
 mod bounds;
-#[cfg(test)]
-mod points;
 #[cfg(test)]
 mod reports;
 #[cfg(test)]

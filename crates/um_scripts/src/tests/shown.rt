@@ -1,6 +1,7 @@
-//! Faults and decks shown as pieces of text, with commas between them.
+//! Faults, decks and boxes shown as pieces of text, with commas between them.
 
 use std::alloc::Global;
+use um_box::NodeBox;
 use um_deck::{Arc, Column, Deck, Kind, OrderedSet, Row, SetKind};
 use um_maker::Fault;
 use um_num::{List, Memory};
@@ -61,6 +62,27 @@ impl Shown {
         }
         for arc in deck.arcs() {
             self.put_arc(arc)?;
+        }
+        Ok(())
+    }
+
+    /// The two ends of each column, the interval of each set, and the column that makes the box void.
+    pub fn put_box(&mut self, node: &NodeBox<'_>) -> Result<(), Memory> {
+        let deck = node.deck();
+        deck.known();
+        for column in 0..deck.columns().len() {
+            let (low, high) = node.ends(column as u32);
+            self.put_end(low)?;
+            self.put_end(high)?;
+            self.put(b",")?;
+        }
+        for set in 0..deck.sets().len() {
+            let (first, last) = node.span(set as u32);
+            self.put_pair(first, i64::from(last))?;
+        }
+        if let Some(column) = node.void() {
+            self.put(b" void")?;
+            self.put_number(i64::from(column))?;
         }
         Ok(())
     }
