@@ -5,4 +5,6 @@ pub mod CountedLines
 pub mod ReaderSteps
 pub mod LoopSteps
 pub mod SaysFine
+pub mod SetsKept
+pub mod PlaceKept
 pub mod LawSteps

@@ -11,13 +11,13 @@ use Rattle.um_statements.specs.CallRules.{faults_in}
 use Rattle.um_statements.specs.Made.{deck_value}
 use Rattle.um_statements.specs.DeckRules.{deck_fault}
 use Rattle.um_mps.specs.declared.reader.ReadFault.{ReadFault}
-use Rattle.um_mps.specs.DeckLines.{Line, data_now, deck_lines, line_of, section_now}
+use Rattle.um_mps.specs.DeckLines.{Line, deck_lines, line_of}
 use Rattle.um_mps.specs.Places.{Place, place_of}
 use Rattle.um_mps.specs.DeckText.{DeckFault, DeckText, is_end, known, line_fault, own_fault, text_deck, text_fault, told}
 use Rattle.um_mps.specs.Reading.{IsBehind, IsPlace, IsReading, Reads, counted_behind, fault_behind}
 use Rattle.um_mps.proofs.FirstBroken.{first_found}
 use Rattle.um_mps.proofs.CountedLines.{counted_found}
-use Rattle.um_mps.proofs.ReaderSteps.{none_yet}
+use Rattle.um_mps.proofs.PlaceKept.{first_placed}
 
 start_known : known [] ≡ nothing_said
 unfolding told collected
@@ -27,17 +27,13 @@ pub start_unbroken : faults_in nothing_said (told []) ≡ None
 unfolding told
 start_unbroken = refl
 
-start_column : (place : Place) → place ≡ place_of [] → place.column ≡ None
-unfolding place_of section_now data_now
-start_column place first = ap (λ (p : Place). p.column) first
-
 started : (all : List Line) (place : Place) (maker : Said) → place ≡ place_of [] → maker ≡ nothing_said → IsReading all all 0 place maker
 started all place maker first new = record {
   before = [];
   split = refl;
   count = refl;
   behind = record { here = first; said = new ∙ sym start_known; unbroken = start_unbroken };
-  may = none_yet place maker (start_column place first);
+  may = first_placed place maker first new;
   same_fault = refl;
   same_lines = refl;
 }

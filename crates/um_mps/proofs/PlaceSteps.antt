@@ -7,10 +7,12 @@ use Rattle.std.specs.List.{after_last, filter_map, last_or, list_any, prefix_len
 use Rattle.std.specs.Option.{option_and_then, option_map_or, option_or}
 use Rattle.um_statements.specs.Statements.{Name}
 use Rattle.um_statements.proofs.LastBounds.{last_push, last_of_push}
+use Rattle.um_setsec.specs.SetLines.{weights_told}
 use Rattle.um_mps.specs.declared.section.Section.{Section}
 use Rattle.um_mps.specs.declared.section.Section.TheVariants as section
 use Rattle.um_mps.specs.Sections.{is_section}
-use Rattle.um_mps.specs.DeckLines.{Words, Line, Skipped, Heading, Data, data_now, data_words, has_section, heading_of, is_heading, section_now}
+use Rattle.um_setsec.specs.Words.{Words}
+use Rattle.um_mps.specs.DeckLines.{Line, Skipped, Heading, Data, data_now, data_words, has_section, heading_of, is_heading, section_now}
 use Rattle.um_mps.specs.LineWords.{is_marker, is_objective_line, opens}
 use Rattle.um_mps.specs.Places.{Place, column_of, first_line, is_open, last_column, place_of, set_in}
 use Rattle.um_mps.specs.Behind.{behind, behind_data, behind_section}
@@ -72,6 +74,7 @@ place_in now has_rows has_columns lines = record {
   in_block = is_section section.Columns now && is_open lines;
   column = if is_section section.Columns now then last_column lines else None;
   used = option_and_then (set_in now) (first_line lines);
+  weights = if is_section section.Sos now then last_or None (filter_map weights_told lines) else None;
 }
 
 place_is : (before : List Line) → place_of before ≡ place_in (section_now before) (has_section section.Rows before) (has_section section.Columns before) (data_now before)
@@ -98,17 +101,21 @@ behind_skipped before =
     ∙ sym (place_is before)
 
 -- a place without a set
-abbrev setless : (now : Option Section) (a b has_objective in_block : Bool) (column : Option Name) → Place
-setless now a b has_objective in_block column = record { section = now; has_rows = a; has_columns = b; has_objective = has_objective; in_block = in_block; column = column; used = None }
+abbrev setless : (now : Option Section) (a b has_objective in_block : Bool) (column : Option Name) (weights : Option Bool) → Place
+setless now a b has_objective in_block column weights = record { section = now; has_rows = a; has_columns = b; has_objective = has_objective; in_block = in_block; column = column; used = None; weights = weights }
 
-nothing_in : (now : Option Section) (a b : Bool) → place_in now a b [] ≡ setless now a b false false None
-nothing_in now a b = by (is_section section.Rows now) (is_section section.Columns now)
-  where
-    by : (r c : Bool) → setless now a b (r && false) (c && false) (if c then None else None) ≡ setless now a b false false None
-    by true true = refl
-    by true false = refl
-    by false true = refl
-    by false false = refl
+and_false : (b : Bool) → (b && false) ≡ false
+and_false true = refl
+and_false false = refl
+
+either : {A : Type 0} (b : Bool) (x : A) → (if b then x else x) ≡ x
+either true x = refl
+either false x = refl
+
+nothing_in : (now : Option Section) (a b : Bool) → place_in now a b [] ≡ setless now a b false false None None
+nothing_in now a b = λ i.
+    setless now a b (and_false (is_section section.Rows now) i) (and_false (is_section section.Columns now) i)
+    (either (is_section section.Columns now) None i) (either (is_section section.Sos now) None i)
 
 behind_head : (before : List Line) (ws : Words) → place_of (before ++ Heading ws ∷ []) ≡ behind (Heading ws) (place_of before)
 behind_head before ws =
@@ -134,10 +141,12 @@ column_push : (lines : List Words) (ws : Words) → last_column (lines ++ ws ∷
 column_push lines ws = ap (option_and_then column_of) (last_push None lines ws)
 
 data_push : (now : Option Section) (a b : Bool) (lines : List Words) (ws : Words) → place_in now a b (lines ++ ws ∷ []) ≡ behind_data now ws (place_in now a b lines)
-data_push (Some section.Rows) a b [] ws = λ i. setless (Some section.Rows) a b (any_push [] ws i) false None
-data_push (Some section.Rows) a b (l ∷ lines) ws = λ i. setless (Some section.Rows) a b (any_push (l ∷ lines) ws i) false None
-data_push (Some section.Columns) a b [] ws = λ i. setless (Some section.Columns) a b false (open_push [] ws i) (column_push [] ws i)
-data_push (Some section.Columns) a b (l ∷ lines) ws = λ i. setless (Some section.Columns) a b false (open_push (l ∷ lines) ws i) (column_push (l ∷ lines) ws i)
+data_push (Some section.Rows) a b [] ws = λ i. setless (Some section.Rows) a b (any_push [] ws i) false None None
+data_push (Some section.Rows) a b (l ∷ lines) ws = λ i. setless (Some section.Rows) a b (any_push (l ∷ lines) ws i) false None None
+data_push (Some section.Columns) a b [] ws = λ i. setless (Some section.Columns) a b false (open_push [] ws i) (column_push [] ws i) None
+data_push (Some section.Columns) a b (l ∷ lines) ws = λ i. setless (Some section.Columns) a b false (open_push (l ∷ lines) ws i) (column_push (l ∷ lines) ws i) None
+data_push (Some section.Sos) a b [] ws = λ i. setless (Some section.Sos) a b false false None (last_of_push weights_told [] ws i)
+data_push (Some section.Sos) a b (l ∷ lines) ws = λ i. setless (Some section.Sos) a b false false None (last_of_push weights_told (l ∷ lines) ws i)
 data_push other a b [] ws = refl
 data_push other a b (l ∷ lines) ws = refl
 

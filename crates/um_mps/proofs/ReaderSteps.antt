@@ -1,5 +1,5 @@
 -- What the reader knows behind one line more.
-use Rattle.std.proofs.Common.{◌≡◌, ◌⊎◌, inl, inr, ℕ, true, false, is_some, List, [], ◌∷◌, ◌++◌, append_assoc, Option, Some, None, Ok, Err, refl, sym, ap, ◌∙◌, subst, slice_index}
+use Rattle.std.proofs.Common.{◌≡◌, ◌⊎◌, inl, inr, ℕ, true, false, List, [], ◌∷◌, ◌++◌, append_assoc, Option, Some, None, Ok, Err, refl, sym, ap, ◌∙◌, subst, slice_index}
 use Rattle.std.proofs.lemmas.List.{append-nil}
 use Rattle.std.specs.Option.{option_or}
 use Rattle.um_text.specs.Words.{words, is_gap}
@@ -12,12 +12,13 @@ use Rattle.um_statements.proofs.CollectedSteps.{more-law}
 use Rattle.um_mps.specs.declared.section.Section.{Section}
 use Rattle.um_mps.specs.declared.section.Section.TheVariants as section
 use Rattle.um_mps.specs.Sections.{is_section, section_called}
-use Rattle.um_mps.specs.DeckLines.{Words, Line, Skipped, Heading, Data, first_word, is_skipped, line_of}
+use Rattle.um_setsec.specs.Words.{Words, first_word}
+use Rattle.um_mps.specs.DeckLines.{Line, Skipped, Heading, Data, is_skipped, line_of}
 use Rattle.um_mps.specs.Places.{Place, place_of}
 use Rattle.um_mps.specs.Behind.{behind, behind_data, behind_heading}
 use Rattle.um_mps.specs.LinesSay.{data_line, heading_line, heading_says, line_says}
 use Rattle.um_mps.specs.DeckText.{each_from, is_end, known, own_fault, told}
-use Rattle.um_mps.specs.Reading.{IsBehind, IsPlace, Reads}
+use Rattle.um_mps.specs.Reading.{IsBehind, Reads}
 use Rattle.um_mps.proofs.PlaceSteps.{place_behind}
 
 -- ---- what is said behind one line more
@@ -145,10 +146,3 @@ pub heading_refused : (bytes : List ℕ) (before : List Line) (place : Place) (m
     → IsBehind before place maker → (fault ≡ Memory) ⊎ (says_fault maker (heading_line place ws) ≡ Some fault) → (fault ≡ Memory) ⊎ (own_fault before (line_of bytes) ≡ Some fault)
 heading_refused bytes before place maker fault ws counts gap parts k broken =
     subst (λ line. (fault ≡ Memory) ⊎ (own_fault before line ≡ Some fault)) (ap Heading parts ∙ sym (heading_is bytes counts gap)) (refuse_heading before place maker fault ws k broken)
-
--- where there is no column to go on with
-pub none_yet : (q : Place) (more : Said) → q.column ≡ None → IsPlace q more
-none_yet q more none = record { in_columns = λ e. absurd (none_is_some (sym (ap is_some none) ∙ e)); some = λ e. absurd (none_is_some (sym (ap is_some none) ∙ e)) }
-  where
-    none_is_some : false ≡ true → ⊥
-    none_is_some e = cc

@@ -6,6 +6,7 @@ use Rattle.std.specs.Option.{ForSome, option_and_then, option_eq, option_map_or}
 use Rattle.std.specs.Str.{bytes_eq}
 use Rattle.um_num.specs.Numbers.{then_step}
 use Rattle.um_num.specs.declared.decimal.Decimal.{Decimal}
+use Rattle.um_model.specs.declared.deck.SetKind.{SetKind}
 use Rattle.um_text.specs.Decimals.{IsNormal, decimal_number, decimal_value, fits, fitting, fitting_or_none, is_decimal}
 use Rattle.um_text.specs.declared.numeral.NumberFault.TheVariants as number_fault
 use Rattle.um_text.proofs.NormalForm.{IsNormal-normal}
@@ -13,24 +14,48 @@ use Rattle.um_statements.specs.declared.fault.Fault.{Fault}
 use Rattle.um_statements.specs.declared.fault.Fault.TheVariants.{BadWords, Marker, Memory, UnknownKind}
 use Rattle.um_statements.specs.declared.parts.BoundKind.{BoundKind}
 use Rattle.um_statements.specs.declared.parts.RowKind.{RowKind}
-use Rattle.um_statements.specs.Statements.{Name, Statement, Bound, Column, Entry, Range, Row, Sense, Side, Title}
+use Rattle.um_statements.specs.Statements.{Name, Statement, Arc, Bound, Column, Entry, Member, Range, Row, Sense, Set, Side, Title}
 use Rattle.um_statements.specs.CallRules.{Rule, first_fault}
 use Rattle.um_statements.specs.Tells.{Says, statements}
 use Rattle.um_statements.specs.WellSaid.{HasNumbers, IsNumber}
 use Rattle.um_mps.specs.declared.section.Section.{Section}
 use Rattle.um_mps.specs.declared.section.Section.TheVariants as section
 use Rattle.um_mps.specs.Sections.{is_section, section_called}
-use Rattle.um_mps.specs.DeckLines.{Words, Line, Skipped, Heading, Data, first_word}
-use Rattle.um_mps.specs.LineWords.{bare_bound, is_marker, number, read_as, row_kind, sense_called, set_of_bound, set_of_pairs, third_word, valued_bound}
+use Rattle.um_setsec.specs.Words.{Words, first_word}
+use Rattle.um_mps.specs.DeckLines.{Line, Skipped, Heading, Data}
+use Rattle.um_setsec.specs.Numbers.{number, read_as}
+use Rattle.um_setsec.specs.SetLines.{arc_says, member_line, set_head, set_kind, set_says}
+use Rattle.um_mps.specs.LineWords.{bare_bound, is_marker, row_kind, sense_called, set_of_bound, set_of_pairs, third_word, valued_bound}
 use Rattle.um_mps.specs.Places.{Place, is_used}
-use Rattle.um_mps.specs.LinesSay.{kinds, begun, behind_set, bound_line, bound_rules, bound_says, column_line, data_line, entry_line, heading_rules, heading_says, heading_statements, line_says, pairs, pairs_line, row_line, second_word, sense_line, with_value, without_value}
+use Rattle.um_mps.specs.LinesSay.{kinds, begun, behind_set, bound_line, bound_rules, bound_says, column_line, data_line, entry_line, heading_line, heading_rules, heading_says, heading_statements, line_says, pairs, pairs_line, row_line, second_word, sense_line, with_value, without_value}
 
 abbrev NotMemory : Fault → Type 0
 NotMemory fault = fault ≢ Memory
 
 -- statements whose numbers may be told, or a rule other than want of memory
 abbrev pub IsFine : Says → Type 0
-IsFine says = MatchResult says (All HasNumbers) (λ fault. fault ≢ Memory)
+IsFine says = MatchResult says (All HasNumbers) NotMemory
+
+-- a statement that speaks of no ordered set
+abbrev pub NoSet : Statement → Type 0
+NoSet (Set kind name reference) = ⊥
+NoSet (Member column weight) = ⊥
+NoSet other = Unit {0}
+
+abbrev pub Plain : Statement → Type 0
+Plain s = HasNumbers s × NoSet s
+
+-- the same of statements that speak of no ordered set
+abbrev pub IsPlain : Says → Type 0
+IsPlain says = MatchResult says (All Plain) NotMemory
+
+numbers_of : (told : List Statement) → All Plain told → All HasNumbers told
+numbers_of [] all = All-nil HasNumbers
+numbers_of (s ∷ told) all = All-cons HasNumbers s told (All-head Plain s told all).0 (numbers_of told (All-tail Plain s told all))
+
+fine_of : (says : Says) → IsPlain says → IsFine says
+fine_of (Ok told) plain = numbers_of told plain
+fine_of (Err fault) plain = plain
 
 -- ---- rules
 
@@ -53,10 +78,10 @@ first_fine (r ∷ rules) fine fault first = by r.0 refl (first_fine rules fine.1
     by false e rest = rest (rw e at first)
 
 -- what a line says where one of the rules is broken, and where none is
-rules_fine : (rules : List Rule) → FineRules rules → (says : Says) → IsFine says → IsFine (option_map_or (λ fault. Err fault) (first_fault rules) says)
+rules_fine : (rules : List Rule) → FineRules rules → (says : Says) → IsPlain says → IsPlain (option_map_or (λ fault. Err fault) (first_fault rules) says)
 rules_fine rules fine says h = by (first_fault rules) (first_fine rules fine)
   where
-    by : (o : Option Fault) → ((fault : Fault) → o ≡ Some fault → fault ≢ Memory) → IsFine (option_map_or (λ fault. Err fault) o says)
+    by : (o : Option Fault) → ((fault : Fault) → o ≡ Some fault → fault ≢ Memory) → IsPlain (option_map_or (λ fault. Err fault) o says)
     by None k = h
     by (Some fault) k = k fault refl
 
@@ -112,82 +137,88 @@ pairs_fine (a ∷ (b ∷ (c ∷ (d ∷ [])))) =
     step_fine (All HasNumber) b _ (λ v n. step_fine (All HasNumber) d _ (λ w m. All-cons HasNumber (a, v) ((c, w) ∷ []) n (All-cons HasNumber (c, w) [] m (All-nil HasNumber))))
 pairs_fine (a ∷ (b ∷ (c ∷ (d ∷ (e ∷ ws))))) = λ same. cc
 
-map_fine : (says : Name → Decimal → Statement) → ((row : Name) (v : Decimal) → IsNumber v → HasNumbers (says row v)) → (ps : List (Name × Decimal)) → All HasNumber ps → All HasNumbers (map (λ p. says p.0 p.1) ps)
-map_fine says h [] all = All-nil HasNumbers
-map_fine says h (p ∷ ps) all = All-cons HasNumbers (says p.0 p.1) _ (h p.0 p.1 (All-head HasNumber p ps all)) (map_fine says h ps (All-tail HasNumber p ps all))
+map_fine : (says : Name → Decimal → Statement) → ((row : Name) (v : Decimal) → IsNumber v → Plain (says row v)) → (ps : List (Name × Decimal)) → All HasNumber ps → All Plain (map (λ p. says p.0 p.1) ps)
+map_fine says h [] all = All-nil Plain
+map_fine says h (p ∷ ps) all = All-cons Plain (says p.0 p.1) _ (h p.0 p.1 (All-head HasNumber p ps all)) (map_fine says h ps (All-tail HasNumber p ps all))
 
-told_fine : (says : Name → Decimal → Statement) → ((row : Name) (v : Decimal) → IsNumber v → HasNumbers (says row v)) → (xs : List Statement) → All HasNumbers xs
-    → (r : Result (List (Name × Decimal)) Fault) → MatchResult r (All HasNumber) NotMemory → IsFine (then_step r (λ ps. Ok (xs ++ map (λ p. says p.0 p.1) ps)))
-told_fine says h xs all (Ok ps) n = All-append HasNumbers xs (map (λ p. says p.0 p.1) ps) all (map_fine says h ps n)
+told_fine : (says : Name → Decimal → Statement) → ((row : Name) (v : Decimal) → IsNumber v → Plain (says row v)) → (xs : List Statement) → All Plain xs
+    → (r : Result (List (Name × Decimal)) Fault) → MatchResult r (All HasNumber) NotMemory → IsPlain (then_step r (λ ps. Ok (xs ++ map (λ p. says p.0 p.1) ps)))
+told_fine says h xs all (Ok ps) n = All-append Plain xs (map (λ p. says p.0 p.1) ps) all (map_fine says h ps n)
 told_fine says h xs all (Err fault) n = n
 
-pairs_line_fine : (says : Name → Decimal → Statement) → ((row : Name) (v : Decimal) → IsNumber v → HasNumbers (says row v)) → (place : Place) (ws : Words) → IsFine (pairs_line says place ws)
+pairs_line_fine : (says : Name → Decimal → Statement) → ((row : Name) (v : Decimal) → IsNumber v → Plain (says row v)) → (place : Place) (ws : Words) → IsPlain (pairs_line says place ws)
 pairs_line_fine says h place ws = by (nat_lt (length ws) 2 || nat_lt 5 (length ws)) (is_used place (set_of_pairs ws))
   where
-    by : (bad used : Bool) → IsFine (if bad then Err BadWords else if used then then_step (pairs (behind_set ws)) (λ ps. Ok (map (λ p. says p.0 p.1) ps)) else Ok [])
+    by : (bad used : Bool) → IsPlain (if bad then Err BadWords else if used then then_step (pairs (behind_set ws)) (λ ps. Ok (map (λ p. says p.0 p.1) ps)) else Ok [])
     by true used = λ same. cc
-    by false true = told_fine says h [] (All-nil HasNumbers) (pairs (behind_set ws)) (pairs_fine (behind_set ws))
-    by false false = All-nil HasNumbers
+    by false true = told_fine says h [] (All-nil Plain) (pairs (behind_set ws)) (pairs_fine (behind_set ws))
+    by false false = All-nil Plain
 
 -- ---- OBJSENSE, ROWS and COLUMNS
 
-one_fine : (s : Statement) → HasNumbers s → All HasNumbers (s ∷ [])
-one_fine s h = All-cons HasNumbers s [] h (All-nil HasNumbers)
+one_fine : (s : Statement) → Plain s → All Plain (s ∷ [])
+one_fine s h = All-cons Plain s [] h (All-nil Plain)
 
-sense_fine : (ws : Words) → IsFine (sense_line ws)
+sense_fine : (ws : Words) → IsPlain (sense_line ws)
 sense_fine [] = λ same. cc
 sense_fine (w ∷ []) = by (sense_called w)
   where
-    by : (o : Option Bool) → IsFine (kinds o (λ maximise. Ok (Sense maximise ∷ [])))
+    by : (o : Option Bool) → IsPlain (kinds o (λ maximise. Ok (Sense maximise ∷ [])))
     by None = λ same. cc
-    by (Some maximise) = one_fine (Sense maximise) tt
+    by (Some maximise) = one_fine (Sense maximise) (tt, tt)
 sense_fine (w ∷ (v ∷ ws)) = λ same. cc
 
-row_fine : (ws : Words) → IsFine (row_line ws)
+row_fine : (ws : Words) → IsPlain (row_line ws)
 row_fine [] = λ same. cc
 row_fine (w ∷ []) = λ same. cc
 row_fine (w ∷ (name ∷ [])) = by (row_kind w)
   where
-    by : (o : Option RowKind) → IsFine (kinds o (λ kind. Ok (Row kind name ∷ [])))
+    by : (o : Option RowKind) → IsPlain (kinds o (λ kind. Ok (Row kind name ∷ [])))
     by None = λ same. cc
-    by (Some kind) = one_fine (Row kind name) tt
+    by (Some kind) = one_fine (Row kind name) (tt, tt)
 row_fine (w ∷ (name ∷ (v ∷ ws))) = λ same. cc
 
-begun_fine : (place : Place) (column : Name) → All HasNumbers (begun place column)
+begun_fine : (place : Place) (column : Name) → All Plain (begun place column)
 begun_fine place column = by (option_eq bytes_eq place.column (Some column))
   where
-    by : (b : Bool) → All HasNumbers (if b then [] else Column column place.in_block ∷ [])
-    by true = All-nil HasNumbers
-    by false = one_fine (Column column place.in_block) tt
+    by : (b : Bool) → All Plain (if b then [] else Column column place.in_block ∷ [])
+    by true = All-nil Plain
+    by false = one_fine (Column column place.in_block) (tt, tt)
 
-column_fine : (place : Place) (ws : Words) → IsFine (column_line place ws)
+column_fine : (place : Place) (ws : Words) → IsPlain (column_line place ws)
 column_fine place ws = by (is_marker ws) (bytes_eq (third_word ws) (if place.in_block then codes "'INTEND'" else codes "'INTORG'"))
   where
-    by : (marker right : Bool) → IsFine (if marker then (if right then Ok [] else Err Marker) else entry_line place ws)
-    by true true = All-nil HasNumbers
+    by : (marker right : Bool) → IsPlain (if marker then (if right then Ok [] else Err Marker) else entry_line place ws)
+    by true true = All-nil Plain
     by true false = λ same. cc
-    by false right = told_fine Entry (λ row v n. n) (begun place (first_word ws)) (begun_fine place (first_word ws)) (pairs (drop 1 ws)) (pairs_fine (drop 1 ws))
+    by false right = told_fine Entry (λ row v n. (n, tt)) (begun place (first_word ws)) (begun_fine place (first_word ws)) (pairs (drop 1 ws)) (pairs_fine (drop 1 ws))
 
 -- ---- BOUNDS
 
-bound_fine : (kind : BoundKind) (column : Name) (v : Decimal) → IsNumber v → All HasNumbers (Bound kind column (Some v) ∷ [])
-bound_fine kind column v n = one_fine (Bound kind column (Some v)) (λ w is. let same : v ≡ w = cc in subst IsNumber same n)
+some_number : (v : Decimal) → IsNumber v → ForSome (Some v) IsNumber
+some_number v n = λ w is. let same : v ≡ w = cc in subst IsNumber same n
 
-bare_fine : (kind : BoundKind) (column : Name) → All HasNumbers (Bound kind column None ∷ [])
-bare_fine kind column = one_fine (Bound kind column None) (λ w is. absurd (none_some w is))
+no_number : ForSome None IsNumber
+no_number = λ w is. absurd (none_some w is)
   where
     none_some : (w : Decimal) → None ≡ Some w → ⊥
     none_some w e = cc
 
-with_fine : (kind : BoundKind) (ws : Words) → IsFine (with_value kind ws)
+bound_fine : (kind : BoundKind) (column : Name) (v : Decimal) → IsNumber v → All Plain (Bound kind column (Some v) ∷ [])
+bound_fine kind column v n = one_fine (Bound kind column (Some v)) (some_number v n, tt)
+
+bare_fine : (kind : BoundKind) (column : Name) → All Plain (Bound kind column None ∷ [])
+bare_fine kind column = one_fine (Bound kind column None) (no_number, tt)
+
+with_fine : (kind : BoundKind) (ws : Words) → IsPlain (with_value kind ws)
 with_fine kind [] = λ same. cc
 with_fine kind (a ∷ []) = λ same. cc
 with_fine kind (a ∷ (b ∷ [])) = λ same. cc
-with_fine kind (a ∷ (b ∷ (c ∷ []))) = step_fine (All HasNumbers) c _ (bound_fine kind b)
-with_fine kind (a ∷ (b ∷ (c ∷ (d ∷ [])))) = step_fine (All HasNumbers) d _ (bound_fine kind c)
+with_fine kind (a ∷ (b ∷ (c ∷ []))) = step_fine (All Plain) c _ (bound_fine kind b)
+with_fine kind (a ∷ (b ∷ (c ∷ (d ∷ [])))) = step_fine (All Plain) d _ (bound_fine kind c)
 with_fine kind (a ∷ (b ∷ (c ∷ (d ∷ (e ∷ ws))))) = λ same. cc
 
-without_fine : (kind : BoundKind) (ws : Words) → IsFine (without_value kind ws)
+without_fine : (kind : BoundKind) (ws : Words) → IsPlain (without_value kind ws)
 without_fine kind [] = λ same. cc
 without_fine kind (a ∷ []) = λ same. cc
 without_fine kind (a ∷ (b ∷ [])) = bare_fine kind b
@@ -195,51 +226,103 @@ without_fine kind (a ∷ (b ∷ (c ∷ []))) = bare_fine kind c
 without_fine kind (a ∷ (b ∷ (c ∷ (d ∷ [])))) = bare_fine kind c
 without_fine kind (a ∷ (b ∷ (c ∷ (d ∷ (e ∷ ws))))) = λ same. cc
 
-says_fine : (ws : Words) → IsFine (bound_says ws)
+says_fine : (ws : Words) → IsPlain (bound_says ws)
 says_fine ws = by (valued_bound (first_word ws)) (bare_bound (first_word ws))
   where
-    by : (valued bare : Option BoundKind) → IsFine (option_map_or (λ kind. with_value kind ws) valued (option_map_or (λ kind. without_value kind ws) bare (Err UnknownKind)))
+    by : (valued bare : Option BoundKind) → IsPlain (option_map_or (λ kind. with_value kind ws) valued (option_map_or (λ kind. without_value kind ws) bare (Err UnknownKind)))
     by (Some kind) bare = with_fine kind ws
     by None (Some kind) = without_fine kind ws
     by None None = λ same. cc
 
-bound_line_fine : (place : Place) (ws : Words) → IsFine (bound_line place ws)
-bound_line_fine place ws = rules_fine (bound_rules ws) (λ same. cc, (λ same. cc, (λ same. cc, tt))) _ (by (is_used place (set_of_bound ws)))
+bound_line_fine : (place : Place) (ws : Words) → IsPlain (bound_line place ws)
+bound_line_fine place ws = rules_fine (bound_rules ws) (λ same. cc, (λ same. cc, tt)) _ (by (is_used place (set_of_bound ws)))
   where
-    by : (used : Bool) → IsFine (if used then bound_says ws else Ok [])
+    by : (used : Bool) → IsPlain (if used then bound_says ws else Ok [])
     by true = says_fine ws
-    by false = All-nil HasNumbers
+    by false = All-nil Plain
+
+-- ---- SOS and ARCS
+
+head_fine : (kind : SetKind) (ws : Words) → IsFine (set_head kind ws)
+head_fine kind [] = λ same. cc
+head_fine kind (a ∷ []) = λ same. cc
+head_fine kind (a ∷ (b ∷ [])) = All-cons HasNumbers (Set kind b None) [] tt (All-nil HasNumbers)
+head_fine kind (a ∷ (b ∷ (c ∷ []))) = All-cons HasNumbers (Set kind b (Some c)) [] tt (All-nil HasNumbers)
+head_fine kind (a ∷ (b ∷ (c ∷ (d ∷ ws)))) = λ same. cc
+
+member_fine : (wants : Option Bool) (ws : Words) → IsFine (member_line wants ws)
+member_fine None ws = λ same. cc
+member_fine (Some true) [] = λ same. cc
+member_fine (Some true) (a ∷ []) = λ same. cc
+member_fine (Some true) (a ∷ (b ∷ [])) = step_fine (All HasNumbers) b _ (λ v n. All-cons HasNumbers (Member a (Some v)) [] (some_number v n) (All-nil HasNumbers))
+member_fine (Some true) (a ∷ (b ∷ (c ∷ ws))) = λ same. cc
+member_fine (Some false) [] = λ same. cc
+member_fine (Some false) (a ∷ []) = All-cons HasNumbers (Member a None) [] no_number (All-nil HasNumbers)
+member_fine (Some false) (a ∷ (b ∷ ws)) = λ same. cc
+
+set_fine : (wants : Option Bool) (ws : Words) → IsFine (set_says wants ws)
+set_fine wants ws = by (set_kind (first_word ws))
+  where
+    by : (o : Option SetKind) → IsFine (option_map_or (λ kind. set_head kind ws) o (member_line wants ws))
+    by None = member_fine wants ws
+    by (Some kind) = head_fine kind ws
+
+arc_fine : (ws : Words) → IsPlain (arc_says ws)
+arc_fine [] = λ same. cc
+arc_fine (a ∷ []) = λ same. cc
+arc_fine (a ∷ (b ∷ [])) = λ same. cc
+arc_fine (a ∷ (b ∷ (c ∷ []))) = λ same. cc
+arc_fine (a ∷ (b ∷ (c ∷ (d ∷ [])))) = by (bytes_eq a (codes "Q"))
+  where
+    by : (known : Bool) → IsPlain (if known then then_step (number d) (λ v. Ok (Arc b c v ∷ [])) else Err UnknownKind)
+    by true = step_fine (All Plain) d _ (λ v n. one_fine (Arc b c v) (n, tt))
+    by false = λ same. cc
+arc_fine (a ∷ (b ∷ (c ∷ (d ∷ (e ∷ ws))))) = λ same. cc
 
 -- ---- all lines
 
-data_fine : (now : Option Section) (place : Place) (ws : Words) → IsFine (data_line now place ws)
-data_fine (Some section.Objsense) place ws = sense_fine ws
-data_fine (Some section.Rows) place ws = row_fine ws
-data_fine (Some section.Columns) place ws = column_fine place ws
-data_fine (Some section.Rhs) place ws = pairs_line_fine Side (λ row v n. n) place ws
-data_fine (Some section.Ranges) place ws = pairs_line_fine Range (λ row v n. n) place ws
-data_fine (Some section.Bounds) place ws = bound_line_fine place ws
-data_fine other place ws = λ same. cc
+-- lines of other sections than SOS speak of no set
+pub data_plain : (now : Option Section) (place : Place) (ws : Words) → is_section section.Sos now ≡ false → IsPlain (data_line now place ws)
+data_plain (Some section.Objsense) place ws other = sense_fine ws
+data_plain (Some section.Rows) place ws other = row_fine ws
+data_plain (Some section.Columns) place ws other = column_fine place ws
+data_plain (Some section.Rhs) place ws other = pairs_line_fine Side (λ row v n. (n, tt)) place ws
+data_plain (Some section.Ranges) place ws other = pairs_line_fine Range (λ row v n. (n, tt)) place ws
+data_plain (Some section.Bounds) place ws other = bound_line_fine place ws
+data_plain (Some section.Arcs) place ws other = arc_fine ws
+data_plain (Some section.Sos) place ws other = absurd (not_true other)
+  where
+    not_true : true ≡ false → ⊥
+    not_true e = cc
+data_plain now place ws other = λ same. cc
 
-told_heading : (found : Option Section) (ws : Words) → All HasNumbers (heading_statements found ws)
+data_fine : (now : Option Section) (place : Place) (ws : Words) → IsFine (data_line now place ws)
+data_fine (Some section.Sos) place ws = set_fine place.weights ws
+data_fine now place ws = fine_of (data_line now place ws) (data_plain now place ws refl)
+
+told_heading : (found : Option Section) (ws : Words) → All Plain (heading_statements found ws)
 told_heading found ws = by (is_section section.Name found) (is_section section.Objsense found) (option_and_then sense_called (second_word ws))
   where
     by : (name sense : Bool) (o : Option Bool)
-        → All HasNumbers (if name then Title (unwrap_or (second_word ws) []) ∷ [] else if sense then option_map_or (λ maximise. Sense maximise ∷ []) o [] else [])
-    by true sense o = one_fine (Title (unwrap_or (second_word ws) [])) tt
-    by false true None = All-nil HasNumbers
-    by false true (Some maximise) = one_fine (Sense maximise) tt
-    by false false o = All-nil HasNumbers
+        → All Plain (if name then Title (unwrap_or (second_word ws) []) ∷ [] else if sense then option_map_or (λ maximise. Sense maximise ∷ []) o [] else [])
+    by true sense o = one_fine (Title (unwrap_or (second_word ws) [])) (tt, tt)
+    by false true None = All-nil Plain
+    by false true (Some maximise) = one_fine (Sense maximise) (tt, tt)
+    by false false o = All-nil Plain
 
-heading_fine : (place : Place) (found : Option Section) (ws : Words) → IsFine (heading_says place found ws)
-heading_fine place found ws =
-    rules_fine (heading_rules place found ws) (λ same. cc, (λ same. cc, (λ same. cc, (λ same. cc, (λ same. cc, (λ same. cc, tt)))))) _ (told_heading found ws)
+pub heading_plain : (place : Place) (found : Option Section) (ws : Words) → IsPlain (heading_says place found ws)
+heading_plain place found ws =
+    rules_fine (heading_rules place found ws) (λ same. cc, (λ same. cc, (λ same. cc, (λ same. cc, (λ same. cc, tt))))) _ (told_heading found ws)
 
 pub line_fine : (place : Place) (line : Line) → IsFine (line_says place line)
 unfolding line_says
 line_fine place Skipped = All-nil HasNumbers
-line_fine place (Heading ws) = heading_fine place (section_called (first_word ws)) ws
+line_fine place (Heading ws) = fine_of (heading_line place ws) (heading_plain place (section_called (first_word ws)) ws)
 line_fine place (Data ws) = data_fine place.section place ws
+
+pub statements_plain : (says : Says) → IsPlain says → All Plain (statements says)
+statements_plain (Ok told) plain = plain
+statements_plain (Err fault) plain = All-nil Plain
 
 pub statements_fine : (says : Says) → IsFine says → All HasNumbers (statements says)
 statements_fine (Ok told) fine = fine

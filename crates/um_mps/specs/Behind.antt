@@ -5,7 +5,9 @@ use Rattle.um_statements.specs.Said.{Said}
 use Rattle.um_mps.specs.declared.section.Section.{Section}
 use Rattle.um_mps.specs.declared.section.Section.TheVariants as section
 use Rattle.um_mps.specs.Sections.{section_called, is_section}
-use Rattle.um_mps.specs.DeckLines.{Words, Line, Skipped, Heading, Data, first_word}
+use Rattle.um_setsec.specs.Words.{Words, first_word}
+use Rattle.um_setsec.specs.SetLines.{weights_told}
+use Rattle.um_mps.specs.DeckLines.{Line, Skipped, Heading, Data}
 use Rattle.um_mps.specs.LineWords.{is_objective_line, is_marker, opens, set_of_pairs, set_of_bound}
 use Rattle.um_mps.specs.Places.{Place, column_of}
 
@@ -24,6 +26,10 @@ behind_pairs ws p = record p { used = option_or p.used (Some (set_of_pairs ws)) 
 abbrev pub behind_bound : Words → Place → Place
 behind_bound ws p = record p { used = option_or p.used (Some (set_of_bound ws)) }
 
+-- behind a line of SOS: one that begins a set says whether its members have weights
+abbrev pub behind_set_line : Words → Place → Place
+behind_set_line ws p = record p { weights = option_or (weights_told ws) p.weights }
+
 -- behind a data line in this section
 abbrev pub behind_data : Option Section → Words → Place → Place
 behind_data (Some section.Rows) ws p = behind_row ws p
@@ -31,6 +37,7 @@ behind_data (Some section.Columns) ws p = behind_column ws p
 behind_data (Some section.Rhs) ws p = behind_pairs ws p
 behind_data (Some section.Ranges) ws p = behind_pairs ws p
 behind_data (Some section.Bounds) ws p = behind_bound ws p
+behind_data (Some section.Sos) ws p = behind_set_line ws p
 behind_data other ws p = p
 
 -- behind a heading of this section
@@ -43,6 +50,7 @@ behind_section found p = record {
   in_block = false;
   column = None;
   used = None;
+  weights = None;
 }
 
 abbrev pub behind_heading : Words → Place → Place

@@ -1,15 +1,18 @@
 -- The words of a bound, and what it says.
-use Rattle.std.specs.Prelude.{◌≡◌, [], ◌∷◌, Option, Some, None, is_some, Result, Ok, MatchResult}
+use Rattle.std.specs.Prelude.{◌≡◌, true, [], ◌∷◌, Option, Some, None, is_some, Result, Ok, MatchResult}
 use Rattle.std.specs.Option.{option_copied}
 use Rattle.um_num.specs.Numbers.{then_step}
 use Rattle.um_statements.specs.declared.fault.Fault.{Fault}
 use Rattle.um_statements.specs.declared.parts.BoundKind.{BoundKind}
 use Rattle.um_statements.specs.Statements.{Name, Bound}
+use Rattle.um_statements.specs.Said.{makes_semi}
 use Rattle.um_statements.specs.CallRules.{first_fault}
 use Rattle.um_statements.specs.Tells.{Says, needs_value}
 use Rattle.um_mps.specs.declared.bounds.BoundWords.{BoundWords}
-use Rattle.um_mps.specs.DeckLines.{Words}
-use Rattle.um_mps.specs.LineWords.{number, set_of_bound}
+use Rattle.um_setsec.specs.Words.{Words}
+use Rattle.um_setsec.specs.Numbers.{number}
+use Rattle.um_setsec.specs.SetLines.{semi_says}
+use Rattle.um_mps.specs.LineWords.{set_of_bound}
 use Rattle.um_mps.specs.LinesSay.{bound_rules, bound_says}
 
 -- what a bound on a column says, whose value is this word, if any
@@ -26,6 +29,7 @@ pub record IsBound (ws : Words) (b : BoundWords) : Type 0 where
   pub set : set_of_bound ws ≡ option_copied b.set
   pub says : bound_says ws ≡ says_bound b
   pub needed : needs_value b.kind ≡ is_some b.value
+  pub semi : makes_semi b.kind ≡ true → bound_says ws ≡ semi_says (is_some b.set) ws
 
 abbrev pub AreBoundWords : Words → Result BoundWords Fault → Type 0
 AreBoundWords ws result = MatchResult result (IsBound ws) (λ fault. first_fault (bound_rules ws) ≡ Some fault)

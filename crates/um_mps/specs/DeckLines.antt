@@ -1,13 +1,11 @@
 -- The lines of a deck's text: which count, and under which section they stand.
-use Rattle.std.specs.Prelude.{ℕ, Bool, true, false, ◌||◌, nat_eq, if◌then◌else◌, List, [], length, map, slice_index, slice_index_or, Option, Some, None}
+use Rattle.std.specs.Prelude.{ℕ, Bool, true, false, ◌||◌, nat_eq, if◌then◌else◌, List, length, map, slice_index, Option, Some, None}
 use Rattle.std.specs.List.{filter_map, list_any, after_last, last_or}
 use Rattle.um_text.specs.Lines.{lines}
 use Rattle.um_text.specs.Words.{words, is_gap}
+use Rattle.um_setsec.specs.Words.{Words, first_word}
 use Rattle.um_mps.specs.declared.section.Section.{Section}
 use Rattle.um_mps.specs.Sections.{section_called, is_section}
-
-abbrev pub Words : Type 0
-Words = List (List ℕ)
 
 -- A line is skipped where it has no word or begins with `*`. One that begins with a blank or a tab is a data line;
 -- all others are headings of sections.
@@ -29,10 +27,6 @@ unfoldable pub deck_lines : List ℕ → List Line
 deck_lines bytes = map line_of (lines bytes)
 
 -- ---- sections
-
--- an empty word where there is none
-abbrev pub first_word : Words → List ℕ
-first_word ws = slice_index_or ws 0 []
 
 abbrev pub is_heading : Line → Bool
 is_heading (Heading ws) = true

@@ -3,8 +3,9 @@ use Rattle.std.specs.Prelude.{◌≡◌, ◌+◌, ℕ, zero, suc, take, drop, �
 use Rattle.std.specs.List.{flat_map}
 use Rattle.um_model.specs.Values.{DeckValue}
 use Rattle.um_model.specs.declared.deck.Row.{Row}
-use Rattle.um_model.specs.declared.deck.Kind.TheVariants.{Continuous, Integer}
-use Rattle.um_statements.specs.declared.fault.Fault.TheVariants.{BadNumber, BadWords, CrossedBounds, Marker, NoEnd, NoObjective, NotFinite, NotYet, SectionOrder, TooFine, TooLarge, TwiceColumn, TwiceEntry, TwiceRow, UnknownColumn, UnknownKind, UnknownRow, UnknownSection}
+use Rattle.um_model.specs.declared.deck.Kind.TheVariants.{Continuous, Integer, Semi}
+use Rattle.um_model.specs.declared.deck.SetKind.TheVariants.{S1, S2}
+use Rattle.um_statements.specs.declared.fault.Fault.TheVariants.{ArcRow, BadNumber, BadWords, CrossedBounds, EmptySet, Marker, NoEnd, NoObjective, NotFinite, SectionOrder, SemiInteger, TooFine, TooLarge, TwiceColumn, TwiceEntry, TwiceMember, TwiceRow, TwiceSet, UnknownColumn, UnknownKind, UnknownRow, UnknownSection}
 use Rattle.um_mps.specs.DeckText.{text_fault, text_deck}
 
 -- these lines, each ended by LF
@@ -72,9 +73,9 @@ pub record PlantFaults : Type 0 where
   pub fine : text_fault (text (put 16 (codes " UP BND x 10.0001"))) ≡ Some (16, TooFine)
   pub below : text_fault (text (put 16 (codes " UP BND x -1"))) ≡ Some (18, NotFinite)
   pub endless : text_fault (text (without 16)) ≡ Some (17, NotFinite)
-  pub semi : text_fault (text (put 16 (codes " SC BND x 10"))) ≡ Some (16, NotYet)
-  pub sets : text_fault (text (put 18 (codes "SOS"))) ≡ Some (18, NotYet)
-  pub arcs : text_fault (text (put 18 (codes "ARCS"))) ≡ Some (18, NotYet)
+  pub semi : text_fault (text (put 16 (codes " SC BND x 10"))) ≡ Some (16, SemiInteger)
+  pub sets : text_fault (text (put 18 (codes "SOS"))) ≡ Some (18, NoEnd)
+  pub arcs : text_fault (text (put 18 (codes "ARCS"))) ≡ Some (18, NoEnd)
   pub last : text_fault (text (without 18)) ≡ Some (17, NoEnd)
   pub none : text_fault [] ≡ Some (0, NoEnd)
 
@@ -108,12 +109,37 @@ sides = map (λ (r : Row). (r.low, r.high))
 abbrev pub sets_lines : List (List ℕ)
 sets_lines = codes "ROWS" ∷ codes " N C" ∷ codes " L R" ∷ codes "COLUMNS" ∷ codes " x R 1" ∷ codes "RHS" ∷ codes " A C 5" ∷ codes " B R 7" ∷ codes " A R 3" ∷ codes "ENDATA" ∷ []
 
+-- a set whose weights are those of a reference row, one with weights of its own, a semicontinuous column, and an arc
+abbrev pub form_lines : List (List ℕ)
+form_lines = codes "ROWS" ∷ codes " N C" ∷ codes " N W" ∷ codes "COLUMNS" ∷ codes " x W 2" ∷ codes " y W 1" ∷ codes " z C 1" ∷ codes " v C 1" ∷ codes "BOUNDS" ∷ codes " UP B x 1" ∷ codes " UP B y 1" ∷ codes " UP B z 4" ∷ codes " SC B v 3" ∷ codes " LO B v 1" ∷ codes "SOS" ∷ codes " S1 A W" ∷ codes " x" ∷ codes " y" ∷ codes " S2 B" ∷ codes " y 1.5" ∷ codes "ARCS" ∷ codes " Q C z 2" ∷ codes "ENDATA" ∷ []
+
+abbrev pub form_deck : DeckValue
+form_deck = record {
+  name = [];
+  objective_name = codes "C";
+  maximise = false;
+  scale = 0;
+  constant = pos 0;
+  rows = [];
+  columns =
+      record { name = codes "x"; kind = Continuous; low = Some (pos 0); high = Some (pos 1000); cost = pos 0; entries = [] }
+      ∷ record { name = codes "y"; kind = Continuous; low = Some (pos 0); high = Some (pos 1000); cost = pos 0; entries = [] }
+      ∷ record { name = codes "z"; kind = Continuous; low = Some (pos 0); high = Some (pos 4000); cost = pos 1; entries = [] }
+      ∷ record { name = codes "v"; kind = Semi (pos 1000); low = Some (pos 0); high = Some (pos 3000); cost = pos 1; entries = [] } ∷ [];
+  sets =
+      record { name = codes "A"; kind = S1; members = record { column = 1; weight = pos 1000000 } ∷ record { column = 0; weight = pos 2000000 } ∷ [] }
+      ∷ record { name = codes "B"; kind = S2; members = record { column = 1; weight = pos 1500000 } ∷ [] } ∷ [];
+  arcs = record { row = None; column = 2; value = pos 2 } ∷ [];
+}
+
 pub record Decks : Type 0 where
   pub plant_said : text_deck (text plant) ≡ plant_deck
   pub small_said : text_deck (text small_lines) ≡ small_deck
   pub range_sides : sides (text_deck (text range_lines)).rows ≡ (Some (pos 600), Some (pos 1000)) ∷ []
   pub first_set_sides : sides (text_deck (text sets_lines)).rows ≡ (None, Some (pos 3)) ∷ []
   pub first_set_constant : (text_deck (text sets_lines)).constant ≡ negsuc 4
+  pub forms_said : text_deck (text form_lines) ≡ form_deck
+  pub forms_whole : text_fault (text form_lines) ≡ None
 
 -- ---- more texts
 
@@ -141,7 +167,7 @@ pub record MoreFaults0 : Type 0 where
   pub unknown_row : text_fault (behind_rows (codes " x Z 1 R 1" ∷ codes "ENDATA" ∷ [])) ≡ Some (6, UnknownRow)
   pub kind_other_set : text_fault (begun (codes "BOUNDS" ∷ codes " UP A x 1" ∷ codes " ZZ B x" ∷ codes "ENDATA" ∷ [])) ≡ Some (9, UnknownKind)
   pub fine_infinite : text_fault (begun (codes "BOUNDS" ∷ codes " UP x 1e-4" ∷ codes "ENDATA" ∷ [])) ≡ Some (8, TooFine)
-  pub sc_on_integer : text_fault (begun (codes "BOUNDS" ∷ codes " UI x 1" ∷ codes " SC x 1" ∷ codes "ENDATA" ∷ [])) ≡ Some (9, NotYet)
+  pub sc_on_integer : text_fault (begun (codes "BOUNDS" ∷ codes " UI x 1" ∷ codes " SC x 1" ∷ codes "ENDATA" ∷ [])) ≡ Some (9, SemiInteger)
   pub range_skipped : text_fault (begun (codes "RHS" ∷ codes " F 1e-7" ∷ codes "RANGES" ∷ codes " C 1e-7" ∷ codes "ENDATA" ∷ [])) ≡ None
   pub rows_missing : text_fault (text (codes "COLUMNS" ∷ codes "ENDATA" ∷ [])) ≡ Some (1, SectionOrder)
   pub junk : text_fault (text (codes "ROWS" ∷ codes " N C" ∷ codes "JUNK" ∷ [])) ≡ Some (3, UnknownSection)
@@ -154,8 +180,8 @@ pub record MoreFaults1 : Type 0 where
   pub words_other_set : text_fault (begun (codes "BOUNDS" ∷ codes " UP A x 1" ∷ codes " UP B" ∷ codes "ENDATA" ∷ [])) ≡ Some (9, BadWords)
   pub fx_large : text_fault (begun (codes "BOUNDS" ∷ codes " FX x 1e20" ∷ codes "ENDATA" ∷ [])) ≡ Some (8, TooLarge)
   pub bv_up : text_fault (begun (codes "BOUNDS" ∷ codes " BV x" ∷ codes " UP x -1" ∷ codes "ENDATA" ∷ [])) ≡ Some (10, CrossedBounds)
-  pub set_twice : text_fault (begun (codes "SOS" ∷ codes " S1 A" ∷ codes " S2 A F" ∷ codes "ENDATA" ∷ [])) ≡ Some (7, NotYet)
-  pub arc_row : text_fault (begun (codes "ARCS" ∷ codes " Q F x 0" ∷ codes "ENDATA" ∷ [])) ≡ Some (7, NotYet)
+  pub set_twice : text_fault (begun (codes "SOS" ∷ codes " S1 A" ∷ codes " S2 A F" ∷ codes "ENDATA" ∷ [])) ≡ Some (9, TwiceSet)
+  pub arc_row : text_fault (begun (codes "ARCS" ∷ codes " Q F x 0" ∷ codes "ENDATA" ∷ [])) ≡ Some (8, ArcRow)
   pub columns_missing : text_fault (text (codes "ROWS" ∷ codes " N C" ∷ codes "RHS" ∷ codes "ENDATA" ∷ [])) ≡ Some (3, SectionOrder)
   pub sense_head : text_fault (text (codes "OBJSENSE MOST" ∷ codes "ROWS" ∷ [])) ≡ Some (1, UnknownKind)
   pub marker_words : text_fault (behind_rows (codes " M 'MARKER'" ∷ codes "ENDATA" ∷ [])) ≡ Some (6, BadWords)
@@ -169,4 +195,24 @@ pub record MoreFaults1 : Type 0 where
   pub end_words : text_fault (begun (codes "ENDATA NAME" ∷ codes "JUNK" ∷ [])) ≡ None
   pub range_fine : text_fault (begun (codes "RANGES" ∷ codes " R 1e-7" ∷ codes "ENDATA" ∷ [])) ≡ Some (9, TooFine)
   pub semi_bare : text_fault (begun (codes "BOUNDS" ∷ codes " UP A x 1" ∷ codes " SC B" ∷ [])) ≡ Some (9, BadWords)
-  pub semi_other_set : text_fault (begun (codes "BOUNDS" ∷ codes " UP A x 1" ∷ codes " SC B z 1e" ∷ [])) ≡ Some (9, NotYet)
+  pub semi_other_set : text_fault (begun (codes "BOUNDS" ∷ codes " UP A x 1" ∷ codes " SC B z 1e" ∷ [])) ≡ Some (9, NoEnd)
+
+-- these lines behind two columns with bounds
+abbrev pub ended : List (List ℕ) → List ℕ
+ended lines = behind_rows (codes " x C 1 F 2" ∷ codes " y C 1" ∷ codes "BOUNDS" ∷ codes " UP B x 1" ∷ codes " UP B y 1" ∷ lines)
+
+pub record FormFaults : Type 0 where
+  pub member_first : text_fault (ended (codes "SOS" ∷ codes " x" ∷ [])) ≡ Some (12, BadWords)
+  pub unknown_set_kind : text_fault (ended (codes "SOS" ∷ codes " S3 A" ∷ [])) ≡ Some (12, BadWords)
+  pub weight_wanted : text_fault (ended (codes "SOS" ∷ codes " S1 A" ∷ codes " x" ∷ [])) ≡ Some (13, BadWords)
+  pub weight_unwanted : text_fault (ended (codes "SOS" ∷ codes " S1 A F" ∷ codes " x 1" ∷ [])) ≡ Some (13, BadWords)
+  pub last_set_counts : text_fault (ended (codes "SOS" ∷ codes " S1 A" ∷ codes " x 1" ∷ codes " S1 B F" ∷ codes " x" ∷ codes "ENDATA" ∷ [])) ≡ None
+  pub kind_as_name : text_fault (ended (codes "SOS" ∷ codes " S1 S1" ∷ codes " S1 2" ∷ codes "ENDATA" ∷ [])) ≡ Some (14, EmptySet)
+  pub weight_first : text_fault (ended (codes "SOS" ∷ codes " S1 A" ∷ codes " z 1x" ∷ [])) ≡ Some (13, BadNumber)
+  pub member_twice : text_fault (ended (codes "SOS" ∷ codes " S1 A" ∷ codes " x 1" ∷ codes " x 2" ∷ [])) ≡ Some (14, TwiceMember)
+  pub arc_kind : text_fault (ended (codes "ARCS" ∷ codes " P C x 1x" ∷ [])) ≡ Some (12, UnknownKind)
+  pub arc_words : text_fault (ended (codes "ARCS" ∷ codes " Q C x" ∷ [])) ≡ Some (12, BadWords)
+  pub arc_number : text_fault (ended (codes "ARCS" ∷ codes " Q Z x 1x" ∷ [])) ≡ Some (12, BadNumber)
+  pub arc_again : text_fault (ended (codes "ARCS" ∷ codes " Q C x 0" ∷ codes " Q C x 1" ∷ [])) ≡ Some (13, TwiceEntry)
+  pub semi_fine : text_fault (ended (codes " SC B x 1.0001" ∷ [])) ≡ Some (11, TooFine)
+  pub semi_then_integer : text_fault (ended (codes " SC B x 1" ∷ codes " BV B x" ∷ [])) ≡ Some (12, SemiInteger)

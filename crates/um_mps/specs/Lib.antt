@@ -1,6 +1,5 @@
 pub mod Sections
 pub mod DeckLines
-pub mod Few
 pub mod LineWords
 pub mod Pairs
 pub mod Places

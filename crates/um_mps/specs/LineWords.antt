@@ -1,35 +1,14 @@
--- The words of a deck's lines: kinds, numerals, markers, and the sets that lines name.
-use Rattle.std.specs.Prelude.{ℕ, Bool, true, false, is_some, if◌then◌else◌, List, [], ◌∷◌, Option, Some, None, Result, Ok, Err, codes, slice_index_or}
+-- The words of a deck's lines: kinds, markers, and the sets that lines name.
+use Rattle.std.specs.Prelude.{ℕ, Bool, true, false, is_some, if◌then◌else◌, List, [], ◌∷◌, Option, Some, None, codes, slice_index_or}
 use Rattle.std.specs.Option.{option_map_or}
 use Rattle.std.specs.Str.{bytes_eq}
-use Rattle.um_num.specs.declared.decimal.Decimal.{Decimal}
-use Rattle.um_text.specs.Decimals.{decimal_number}
-use Rattle.um_text.specs.declared.numeral.NumberFault.{NumberFault}
-use Rattle.um_text.specs.declared.numeral.NumberFault.TheVariants as number_fault
-use Rattle.um_statements.specs.declared.fault.Fault.{Fault}
-use Rattle.um_statements.specs.declared.fault.Fault.TheVariants.{BadNumber, TooWide}
 use Rattle.um_statements.specs.declared.parts.RowKind.{RowKind}
 use Rattle.um_statements.specs.declared.parts.RowKind.TheVariants.{N, L, G, E}
 use Rattle.um_statements.specs.declared.parts.BoundKind.{BoundKind}
 use Rattle.um_statements.specs.declared.parts.BoundKind.TheVariants.{Up, Lo, Fx, Fr, Mi, Pl, Bv, Li, Ui, Sc}
 use Rattle.um_statements.specs.Statements.{Name}
 use Rattle.um_statements.specs.CallRules.{is_n}
-use Rattle.um_mps.specs.Sections.{named}
-use Rattle.um_mps.specs.DeckLines.{Words, first_word}
-
--- ---- numerals
-
-abbrev pub as_fault : NumberFault → Fault
-as_fault number_fault.NotNumber = BadNumber
-as_fault number_fault.TooWide = TooWide
-
-abbrev pub read_as : Result Decimal NumberFault → Result Decimal Fault
-read_as (Ok v) = Ok v
-read_as (Err e) = Err (as_fault e)
-
--- the value of a numeral
-abbrev pub number : List ℕ → Result Decimal Fault
-number word = read_as (decimal_number word)
+use Rattle.um_setsec.specs.Words.{Words, first_word, named}
 
 -- ---- kinds
 

@@ -5,17 +5,19 @@ use Rattle.std.specs.Str.{bytes_eq}
 use Rattle.um_num.specs.Numbers.{then_step}
 use Rattle.um_num.specs.declared.decimal.Decimal.{Decimal}
 use Rattle.um_statements.specs.declared.fault.Fault.{Fault}
-use Rattle.um_statements.specs.declared.fault.Fault.TheVariants.{UnknownSection, SectionOrder, BadWords, UnknownKind, NoObjective, Marker, NotYet}
+use Rattle.um_statements.specs.declared.fault.Fault.TheVariants.{UnknownSection, SectionOrder, BadWords, UnknownKind, NoObjective, Marker}
 use Rattle.um_statements.specs.declared.parts.BoundKind.{BoundKind}
-use Rattle.um_statements.specs.declared.parts.BoundKind.TheVariants.{Sc}
 use Rattle.um_statements.specs.Statements.{Name, Statement, Title, Sense, Row, Column, Entry, Side, Range, Bound}
 use Rattle.um_statements.specs.CallRules.{Rule, first_fault}
 use Rattle.um_statements.specs.Tells.{Says}
 use Rattle.um_mps.specs.declared.section.Section.{Section}
 use Rattle.um_mps.specs.declared.section.Section.TheVariants as section
 use Rattle.um_mps.specs.Sections.{section_called, rank, is_section}
-use Rattle.um_mps.specs.DeckLines.{Words, Line, Skipped, Heading, Data, first_word}
-use Rattle.um_mps.specs.LineWords.{number, row_kind, sense_called, valued_bound, bare_bound, is_marker, third_word, set_of_pairs, set_of_bound}
+use Rattle.um_setsec.specs.Words.{Words, first_word}
+use Rattle.um_setsec.specs.Numbers.{number}
+use Rattle.um_setsec.specs.SetLines.{set_says, arc_says}
+use Rattle.um_mps.specs.DeckLines.{Line, Skipped, Heading, Data}
+use Rattle.um_mps.specs.LineWords.{row_kind, sense_called, valued_bound, bare_bound, is_marker, third_word, set_of_pairs, set_of_bound}
 use Rattle.um_mps.specs.Places.{Place, is_used}
 
 -- what a word of a known kind leads to
@@ -31,10 +33,12 @@ pairs other = Err BadWords
 
 -- ---- OBJSENSE and ROWS
 
+-- a line of OBJSENSE: one word
 abbrev pub sense_line : Words → Says
 sense_line (word ∷ []) = kinds (sense_called word) (λ maximise. Ok (Sense maximise ∷ []))
 sense_line other = Err BadWords
 
+-- a line of ROWS: a kind and a name
 abbrev pub row_line : Words → Says
 row_line (kind ∷ name ∷ []) = kinds (row_kind kind) (λ k. Ok (Row k name ∷ []))
 row_line other = Err BadWords
@@ -50,9 +54,11 @@ marker_line in_block ws =
 abbrev pub begun : Place → Name → List Statement
 begun place column = if option_eq bytes_eq place.column (Some column) then [] else Column column place.in_block ∷ []
 
+-- a line of a column's numbers: behind its name one or two rows, each with a number
 abbrev pub entry_line : Place → Words → Says
 entry_line place ws = then_step (pairs (drop 1 ws)) (λ ps. Ok (begun place (first_word ws) ++ map (λ p. Entry p.0 p.1) ps))
 
+-- a line of COLUMNS: a marker, or numbers of a column
 abbrev pub column_line : Place → Words → Says
 column_line place ws = if is_marker ws then marker_line place.in_block ws else entry_line place ws
 
@@ -62,6 +68,7 @@ column_line place ws = if is_marker ws then marker_line place.in_block ws else e
 abbrev pub behind_set : Words → Words
 behind_set ws = if is_some (set_of_pairs ws) then drop 1 ws else ws
 
+-- a line of RHS or RANGES: two to five words, and where its set is used, one or two rows with numbers
 abbrev pub pairs_line : (Name → Decimal → Statement) → Place → Words → Says
 pairs_line says place ws =
     if nat_lt (length ws) 2 || nat_lt 5 (length ws) then Err BadWords
@@ -70,22 +77,18 @@ pairs_line says place ws =
 
 -- ---- BOUNDS
 
+-- a bound with a value, behind the name of a set or not
 abbrev pub with_value : BoundKind → Words → Says
 with_value kind (word ∷ column ∷ value ∷ []) = then_step (number value) (λ v. Ok (Bound kind column (Some v) ∷ []))
 with_value kind (word ∷ set ∷ column ∷ value ∷ []) = then_step (number value) (λ v. Ok (Bound kind column (Some v) ∷ []))
 with_value kind other = Err BadWords
 
--- a fourth word is skipped
+-- a bound without a value, behind the name of a set or not; a fourth word is skipped
 abbrev pub without_value : BoundKind → Words → Says
 without_value kind (word ∷ column ∷ []) = Ok (Bound kind column None ∷ [])
 without_value kind (word ∷ set ∷ column ∷ []) = Ok (Bound kind column None ∷ [])
 without_value kind (word ∷ set ∷ column ∷ value ∷ []) = Ok (Bound kind column None ∷ [])
 without_value kind other = Err BadWords
-
--- a bound of a semicontinuous column, which is not read yet
-abbrev pub is_semi : BoundKind → Bool
-is_semi Sc = true
-is_semi other = false
 
 -- The words of every line are counted, also in lines of other sets: a bound with a value has three or four words, and one
 -- without has two to four. Its kind is looked at too.
@@ -93,14 +96,15 @@ abbrev pub bound_rules : Words → List Rule
 bound_rules ws =
     let valued = valued_bound (first_word ws) in
     (nat_lt (length ws) 2 || nat_lt 4 (length ws) || (is_some valued && nat_eq (length ws) 2), BadWords)
-    ∷ (is_none valued && is_none (bare_bound (first_word ws)), UnknownKind)
-    ∷ (option_map_or is_semi valued false, NotYet) ∷ []
+    ∷ (is_none valued && is_none (bare_bound (first_word ws)), UnknownKind) ∷ []
 
+-- a bound of the kind that its first word is
 abbrev pub bound_says : Words → Says
 bound_says ws =
     option_map_or (λ kind. with_value kind ws) (valued_bound (first_word ws))
     (option_map_or (λ kind. without_value kind ws) (bare_bound (first_word ws)) (Err UnknownKind))
 
+-- a line of BOUNDS: the first rule of words that it breaks; else what it says where its set is used, and nothing in other sets
 abbrev pub bound_line : Place → Words → Says
 bound_line place ws =
     option_map_or (λ fault. Err fault) (first_fault (bound_rules ws))
@@ -108,7 +112,7 @@ bound_line place ws =
 
 -- ---- data lines
 
--- no data lines stand before the first section and in NAME; those of SOS and ARCS are not read yet
+-- no data lines stand before the first section and in NAME
 abbrev pub data_line : Option Section → Place → Words → Says
 data_line (Some section.Objsense) place ws = sense_line ws
 data_line (Some section.Rows) place ws = row_line ws
@@ -116,10 +120,13 @@ data_line (Some section.Columns) place ws = column_line place ws
 data_line (Some section.Rhs) place ws = pairs_line Side place ws
 data_line (Some section.Ranges) place ws = pairs_line Range place ws
 data_line (Some section.Bounds) place ws = bound_line place ws
+data_line (Some section.Sos) place ws = set_says place.weights ws
+data_line (Some section.Arcs) place ws = arc_says ws
 data_line other place ws = Err SectionOrder
 
 -- ---- headings
 
+-- the word behind the first
 abbrev pub second_word : Words → Option (List ℕ)
 second_word (head ∷ word ∷ more) = Some word
 second_word other = None
@@ -138,8 +145,7 @@ heading_rules place found ws =
     ∷ (option_map_or (λ s. not (is_in_order place s)) found false, SectionOrder)
     ∷ (is_section section.Objsense found && option_map_or (λ w. is_none (sense_called w)) (second_word ws) false, UnknownKind)
     ∷ (is_section section.Columns found && not place.has_objective, NoObjective)
-    ∷ (place.in_block, Marker)
-    ∷ (is_section section.Sos found || is_section section.Arcs found, NotYet) ∷ []
+    ∷ (place.in_block, Marker) ∷ []
 
 -- the name of the deck, or its sense; further words are skipped
 abbrev pub heading_statements : Option Section → Words → List Statement
@@ -148,9 +154,11 @@ heading_statements found ws =
     else if is_section section.Objsense found then option_map_or (λ maximise. Sense maximise ∷ []) (option_and_then sense_called (second_word ws)) []
     else []
 
+-- a heading of this section, if of one: the first rule that it breaks, or what it says
 abbrev pub heading_says : Place → Option Section → Words → Says
 heading_says place found ws = option_map_or (λ fault. Err fault) (first_fault (heading_rules place found ws)) (Ok (heading_statements found ws))
 
+-- a heading, whose first word names the section
 abbrev pub heading_line : Place → Words → Says
 heading_line place ws = heading_says place (section_called (first_word ws)) ws
 

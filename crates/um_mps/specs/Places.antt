@@ -7,9 +7,12 @@ use Rattle.um_statements.specs.Statements.{Name}
 use Rattle.um_mps.specs.declared.section.Section.{Section}
 use Rattle.um_mps.specs.declared.section.Section.TheVariants as section
 use Rattle.um_mps.specs.Sections.{is_section}
-use Rattle.um_mps.specs.DeckLines.{Words, Line, first_word, section_now, data_now, has_section}
+use Rattle.um_setsec.specs.Words.{Words, first_word}
+use Rattle.um_setsec.specs.SetLines.{weights_told}
+use Rattle.um_mps.specs.DeckLines.{Line, section_now, data_now, has_section}
 use Rattle.um_mps.specs.LineWords.{is_objective_line, is_marker, opens, set_of_pairs, set_of_bound}
 
+-- the place of a line: what it needs of the lines before it
 pub record Place : Type 0 where
   -- the section in which the line stands
   pub section : Option Section
@@ -23,6 +26,8 @@ pub record Place : Type 0 where
   pub column : Option Name
   -- in RHS, RANGES and BOUNDS, behind a first line: the set that it named, if any
   pub used : Option (Option Name)
+  -- in SOS, behind a line that began a set: whether members of the last one have weights
+  pub weights : Option Bool
 
 -- a block of integer columns is open behind these lines: the last marker opens one
 abbrev pub is_open : List Words → Bool
@@ -36,6 +41,7 @@ column_of ws = if is_marker ws then None else Some (first_word ws)
 abbrev pub last_column : List Words → Option Name
 last_column lines = option_and_then column_of (last_or None lines)
 
+-- the first of these lines
 abbrev pub first_line : List Words → Option Words
 first_line [] = None
 first_line (ws ∷ lines) = Some ws
@@ -57,6 +63,7 @@ place_of before = record {
   in_block = is_section section.Columns (section_now before) && is_open (data_now before);
   column = if is_section section.Columns (section_now before) then last_column (data_now before) else None;
   used = option_and_then (set_in (section_now before)) (first_line (data_now before));
+  weights = if is_section section.Sos (section_now before) then last_or None (filter_map weights_told (data_now before)) else None;
 }
 
 -- the set of the section's first line is used, and lines of other sets are skipped; no set counts as one

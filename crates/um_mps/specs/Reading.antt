@@ -1,20 +1,29 @@
 -- What the reader knows behind some lines of a text.
-use Rattle.std.specs.Prelude.{◌≡◌, ◌⊎◌, ◌+◌, ◌<◌, ℕ, Bool, true, is_some, if◌then◌else◌, List, [], ◌∷◌, ◌++◌, length, Option, Some, None, option_map, Result, MatchResult}
-use Rattle.std.specs.Option.{option_or}
+use Rattle.std.specs.Prelude.{◌≡◌, ◌⊎◌, ◌+◌, ◌<◌, ℕ, Bool, true, is_some, nat_lt, if◌then◌else◌, List, [], ◌∷◌, ◌++◌, length, Option, Some, None, option_map, Result, MatchResult}
+use Rattle.std.specs.Option.{option_map_or, option_or}
 use Rattle.um_statements.specs.declared.fault.Fault.{Fault}
 use Rattle.um_statements.specs.declared.fault.Fault.TheVariants.{NoEnd, Memory}
 use Rattle.um_statements.specs.Said.{Said, nothing_said}
 use Rattle.um_statements.specs.CallRules.{faults_in}
+use Rattle.um_statements.specs.Tells.{wants_weight}
+use Rattle.um_mps.specs.declared.section.Section.{Section}
 use Rattle.um_mps.specs.declared.section.Section.TheVariants as section
-use Rattle.um_mps.specs.Sections.{is_section}
+use Rattle.um_mps.specs.Sections.{is_section, rank}
 use Rattle.um_mps.specs.DeckLines.{Line}
 use Rattle.um_mps.specs.Places.{Place, place_of}
 use Rattle.um_mps.specs.DeckText.{told, known, own_fault, line_fault, is_end}
 
--- a column that a line may go on with is there in COLUMNS alone, and is one that a maker has
+-- a section that comes before SOS, or none yet
+abbrev pub is_before_sets : Option Section → Bool
+is_before_sets found = option_map_or (λ s. nat_lt (rank s) (rank section.Sos)) found true
+
+-- A column that a line may go on with is there in COLUMNS alone, and is one that a maker has. In SOS the place has what the
+-- maker says of the last set, and before SOS there is no set.
 pub record IsPlace (p : Place) (said : Said) : Type 0 where
   pub in_columns : is_some p.column ≡ true → is_section section.Columns p.section ≡ true
   pub some : is_some p.column ≡ true → 0 < length said.columns
+  pub in_sets : is_section section.Sos p.section ≡ true → p.weights ≡ wants_weight said
+  pub before_sets : is_before_sets p.section ≡ true → wants_weight said ≡ None
 
 -- behind these lines, which broke no rule, the place is this, and a maker knows this
 pub record IsBehind (before : List Line) (place : Place) (maker : Said) : Type 0 where

@@ -1,14 +1,9 @@
 -- The sections of a deck's text, in the order in which they come.
-use Rattle.std.specs.Prelude.{ℕ, Bool, false, List, [], ◌∷◌, Option, Some, None, codes, nat_eq, if◌then◌else◌}
+use Rattle.std.specs.Prelude.{ℕ, Bool, false, List, [], ◌∷◌, Option, codes, nat_eq}
 use Rattle.std.specs.Option.{option_map_or}
-use Rattle.std.specs.Str.{bytes_eq}
+use Rattle.um_setsec.specs.Words.{named}
 use Rattle.um_mps.specs.declared.section.Section.{Section}
 use Rattle.um_mps.specs.declared.section.Section.TheVariants as section
-
--- the value beside the first of these words that is this one
-abbrev pub named : {A : Type 0} → List (List ℕ × A) → List ℕ → Option A
-named [] word = None
-named (p ∷ ps) word = if bytes_eq word p.0 then Some p.1 else named ps word
 
 abbrev pub section_called : List ℕ → Option Section
 section_called = named (

@@ -1,17 +1,17 @@
 //! Lines of BOUNDS.
 
 ghost use Rattle.std.specs.Prelude.{◌≡◌, IfSome, None, OnOk, Some, false, is_some, true};
+ghost use Rattle.um_statements.specs.Said.{makes_semi};
 ghost use Rattle.um_statements.specs.Tells.{TellsAll, needs_value};
+ghost use Rattle.um_setsec.specs.Words.{first_word};
 ghost use Rattle.um_mps.specs.LineWords.{bare_bound, valued_bound};
-ghost use Rattle.um_mps.specs.LinesSay.{bound_line, is_semi};
-ghost use Rattle.um_mps.specs.DeckLines.{first_word};
-ghost use Rattle.um_mps.specs.Bounds.{AreBoundWords, says_bound};
+ghost use Rattle.um_mps.specs.LinesSay.{bound_line, bound_says};
+ghost use Rattle.um_mps.specs.Bounds.{AreBoundWords, IsBound};
 ghost use Rattle.um_mps.specs.Behind.{behind_bound};
 
-use crate::few::{Few, few_of, word};
-use crate::pairs::number;
 use crate::place::Place;
 use um_maker::{BoundKind, DeckMaker, Fault};
+use um_setsec::{Few, few_of, number, semi_line, word};
 use um_text::Words;
 
 /// The words of a bound.
@@ -66,7 +66,7 @@ fn bare_bound(word: &[u8]) -> Option<BoundKind>
 }
 
 fn is_semi(kind: BoundKind) -> bool
-    ensures { result ≡ is_semi kind }
+    ensures { result ≡ makes_semi kind }
 {
     match kind {
         BoundKind::Sc => true,
@@ -85,9 +85,6 @@ fn with_value<'b>(kind: BoundKind, words: &Words<'b>) -> Result<BoundWords<'b>, 
         Few::Four(_, set, column, value) => (Some(set), column, value),
         _ => return Err(Fault::BadWords),
     };
-    if is_semi(kind) {
-        return Err(Fault::NotYet);
-    }
     Ok(BoundWords {
         kind,
         set,
@@ -139,11 +136,14 @@ fn bound_words<'b>(words: &Words<'b>) -> Result<BoundWords<'b>, Fault>
     }
 }
 
-/// Tells a maker of a bound.
-fn tell_bound(maker: &mut DeckMaker, bound: &BoundWords<'_>) -> Result<(), Fault>
-    requires { needs_value bound.now.kind ≡ is_some bound.now.value }
-    ensures { TellsAll (says_bound bound.now) maker.old result maker.new }
+/// Tells a maker of the bound of a line, whose words these are.
+fn tell_bound(maker: &mut DeckMaker, words: &Words<'_>, bound: &BoundWords<'_>) -> Result<(), Fault>
+    requires { IsBound words.now bound.now }
+    ensures { TellsAll (bound_says words.now) maker.old result maker.new }
 {
+    if is_semi(bound.kind) {
+        return semi_line(maker, words, bound.set.is_some());
+    }
     match bound.value {
         Some(word) => {
             let value = number(word)?;
@@ -167,7 +167,7 @@ pub fn bound_line<'b>(
             if !place.take_set(bound.set) {
                 return Ok(());
             }
-            tell_bound(maker, &bound)
+            tell_bound(maker, words, &bound)
         }
         Err(fault) => Err(fault),
     }

@@ -10,10 +10,10 @@ ghost use Rattle.um_statements.specs.Statements.{Entry};
 ghost use Rattle.um_mps.specs.Pairs.{AreNumbers, pairs_of};
 ghost use Rattle.um_mps.specs.Behind.{behind_column, GoesOn};
 
-use crate::few::{Few, few_of, word};
 use crate::pairs::{Pairs, Part, read_pairs, tell_pairs};
 use crate::place::Place;
 use um_maker::{DeckMaker, Fault};
+use um_setsec::{Few, few_of, word};
 use um_text::Words;
 
 /// Whether the line is a marker: three words, of which the second says so.

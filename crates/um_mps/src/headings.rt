@@ -9,11 +9,11 @@ ghost use Rattle.um_mps.specs.LineWords.{sense_called};
 ghost use Rattle.um_mps.specs.LinesSay.{heading_line, heading_rules, heading_statements, second_word};
 ghost use Rattle.um_mps.specs.Behind.{behind_heading};
 
-use crate::few::word;
 use crate::place::Place;
 use crate::rows::sense_called;
 use crate::section::Section;
 use um_maker::{DeckMaker, Fault};
+use um_setsec::word;
 use um_text::Words;
 
 /// Whether a second word is there that is no sense.
@@ -41,9 +41,6 @@ fn heading_fault(place: &Place<'_>, section: Section, words: &Words<'_>) -> Opti
     }
     if place.in_block {
         return Some(Fault::Marker);
-    }
-    if section.is(Section::Sos) || section.is(Section::Arcs) {
-        return Some(Fault::NotYet);
     }
     None
 }

@@ -5,13 +5,12 @@
 //! reader: all lines are collected, and the rules of each line stand in one list. A caller may rest on
 //! both answers being exact, the line and the rule among them, and on the laws of `laws`: bytes are the
 //! text of one deck or break one rule first. What surprises: words of a heading that mean nothing are
-//! skipped, and ENDATA ends the text, whatever follows. Ordered sets, arcs and semicontinuous columns
-//! are refused as not read yet. No text is copied; only names that are kept take memory.
+//! skipped, and ENDATA ends the text, whatever follows. No text is copied; only names that are kept take
+//! memory.
 #![tactic(auto)]
 
 mod bounds;
 mod columns;
-mod few;
 mod headings;
 pub mod laws;
 mod pairs;
@@ -19,6 +18,7 @@ mod place;
 mod reader;
 mod rows;
 mod section;
+mod sets;
 #[cfg(test)]
 mod tests;
 

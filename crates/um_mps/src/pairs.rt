@@ -4,16 +4,17 @@ ghost use Rattle.std.specs.Prelude.{◌≡◌, ◌≤◌, ◌+◌, [], Ok, Err, 
 ghost use Rattle.std.specs.Option.{option_copied};
 ghost use Rattle.um_statements.specs.Tells.{Tells, TellsAll};
 ghost use Rattle.um_statements.specs.WellSaid.{IsNumber};
-ghost use Rattle.um_mps.specs.LineWords.{number as number_of, set_of_pairs};
+ghost use Rattle.um_setsec.specs.Numbers.{number as number_of};
+ghost use Rattle.um_mps.specs.LineWords.{set_of_pairs};
 ghost use Rattle.um_mps.specs.LinesSay.{pairs as pairs_in, pairs_line};
 ghost use Rattle.um_mps.specs.Behind.{behind_pairs};
 ghost use Rattle.um_mps.specs.Pairs.{AreNumbers, MayTell, pairs_of, statement};
 
-use crate::few::{Few, few_of, word};
 use crate::place::Place;
 use um_maker::{DeckMaker, Fault};
 use um_num::Decimal;
-use um_text::{NumberFault, Words, decimal};
+use um_setsec::{Few, few_of, number, word};
+use um_text::Words;
 
 /// A row's name and a number.
 #[derive(Clone, Copy, Debug)]
@@ -38,18 +39,6 @@ pub enum Part {
     Side,
     /// The row's range.
     Range,
-}
-
-/// The number of a numeral.
-pub fn number(word: &[u8]) -> Result<Decimal, Fault>
-    ensures value { result ≡ number_of word.now }
-    ensures number { IfOk result IsNumber }
-{
-    match decimal(word) {
-        Ok(value) => Ok(value),
-        Err(NumberFault::NotNumber) => Err(Fault::BadNumber),
-        Err(NumberFault::TooWide) => Err(Fault::TooWide),
-    }
 }
 
 /// The pair whose row is the word at this place.

@@ -27,6 +27,8 @@ pub struct Place<'b> {
     pub(crate) column: Option<&'b [u8]>,
     /// In RHS, RANGES and BOUNDS: the set that the section's first line named, if any.
     pub(crate) used: Option<Option<&'b [u8]>>,
+    /// In SOS: whether members of the last set have weights.
+    pub(crate) weights: Option<bool>,
 }
 
 impl<'b> Model for Place<'b> {
@@ -36,7 +38,7 @@ impl<'b> Model for Place<'b> {
 
     ghost Value = { Known };
 
-    ghost view = { λ p. record { section = p.section; has_rows = p.has_rows; has_columns = p.has_columns; has_objective = p.has_objective; in_block = p.in_block; column = option_copied p.column; used = option_map option_copied p.used } };
+    ghost view = { λ p. record { section = p.section; has_rows = p.has_rows; has_columns = p.has_columns; has_objective = p.has_objective; in_block = p.in_block; column = option_copied p.column; used = option_map option_copied p.used; weights = p.weights } };
 }
 
 impl<'b> Place<'b> {
@@ -53,6 +55,7 @@ impl<'b> Place<'b> {
             in_block: false,
             column: None,
             used: None,
+            weights: None,
         }
     }
 
@@ -90,6 +93,7 @@ impl<'b> Place<'b> {
         self.in_block = false;
         self.column = None;
         self.used = None;
+        self.weights = None;
     }
 
     /// Whether a line of this column goes on with the column of the line before.
@@ -114,6 +118,13 @@ impl<'b> Place<'b> {
                 true
             }
         }
+    }
+
+    /// Goes on with whether members of the last set have weights.
+    pub fn keep_weights(&mut self, weights: Option<bool>)
+        ensures { self.new ≡ record self.old { weights = weights } }
+    {
+        self.weights = weights;
     }
 }
 

@@ -8,7 +8,7 @@ ghost use Rattle.um_statements.specs.Made.{deck_value};
 ghost use Rattle.um_statements.specs.DeckRules.{deck_fault};
 ghost use Rattle.um_mps.specs.DeckLines.{Line, is_skipped, line_of};
 ghost use Rattle.um_mps.specs.LinesSay.{data_line};
-ghost use Rattle.um_mps.specs.Behind.{behind_data};
+ghost use Rattle.um_mps.specs.Behind.{behind_data, GoesOn};
 ghost use Rattle.um_mps.specs.DeckText.{DeckFault, DeckText};
 ghost use Rattle.um_mps.specs.Reading.{IsBehind, IsPlace, Reads};
 
@@ -19,10 +19,12 @@ use crate::pairs::{Part, pairs_line};
 use crate::place::Place;
 use crate::rows::{row_line, sense_line};
 use crate::section::Section;
+use crate::sets::set_line;
 use std::alloc::Global;
 use thiserror::Error;
 use um_deck::Deck;
 use um_maker::{DeckMaker, Fault};
+use um_setsec::arc_line;
 use um_text::{Words, lines_of, words_of};
 
 /// The greatest number of bytes of a deck's text.
@@ -47,7 +49,7 @@ fn data_line<'b>(
     requires may { IsPlace place.old maker.old }
     ensures told { TellsAll (data_line place.old.section place.old words.now) maker.old result maker.new }
     ensures place { OnOk result (place.new ≡ behind_data place.old.section words.now place.old) }
-    ensures may { OnOk result (IsPlace place.new maker.new) }
+    ensures begun { OnOk result (GoesOn place.new maker.new) }
 {
     match place.section {
         Some(Section::Objsense) => sense_line(maker, words),
@@ -56,6 +58,8 @@ fn data_line<'b>(
         Some(Section::Rhs) => pairs_line(maker, Part::Side, place, words),
         Some(Section::Ranges) => pairs_line(maker, Part::Range, place, words),
         Some(Section::Bounds) => bound_line(maker, place, words),
+        Some(Section::Sos) => set_line(maker, place, words),
+        Some(Section::Arcs) => arc_line(maker, words),
         _ => Err(Fault::SectionOrder),
     }
 }
@@ -152,8 +156,7 @@ fn read_lines(alloc: Global, bytes: &[u8]) -> Result<Deck, ReadFault>
 }
 
 /// The deck of a text, or the first rule that it breaks, with its line. A text of more than 16,777,216 bytes is
-/// `TooLong` at line 0; what is not read yet (SOS, ARCS, and bounds of kind SC) is `NotYet` at its line. `Memory` may
-/// come in place of each answer.
+/// `TooLong` at line 0. `Memory` may come in place of each answer.
 pub fn read(alloc: Global, bytes: &[u8]) -> Result<Deck, ReadFault>
     ensures { MatchResult result (λ d. DeckText bytes.now d) (λ e. (e.fault ≡ fault.Memory) ⊎ DeckFault bytes.now e.line e.fault) }
 {

@@ -7,9 +7,9 @@ ghost use Rattle.um_mps.specs.LineWords.{row_kind, sense_called};
 ghost use Rattle.um_mps.specs.LinesSay.{row_line, sense_line};
 ghost use Rattle.um_mps.specs.Behind.{behind_row};
 
-use crate::few::{Few, few_of};
 use crate::place::Place;
 use um_maker::{DeckMaker, Fault, RowKind};
+use um_setsec::{Few, few_of};
 use um_text::Words;
 
 /// Whether this word says that the deck maximises.

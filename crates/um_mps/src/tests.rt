@@ -173,9 +173,9 @@ const FRONT: &str = "ROWS\n N C\n L R\n N F\nCOLUMNS\n";
 const BEHIND: [(&str, Option<(u32, Fault)>); 46] = [
     ("BOUNDS\nRHS\n", Some((7, Fault::SectionOrder))),
     ("RHS\nRHS\n", Some((7, Fault::SectionOrder))),
-    (" x R 1\nSOS\n", Some((7, Fault::NotYet))),
-    (" x R 1\nARCS\n", Some((7, Fault::NotYet))),
-    (" x R 1\nSOS\nRHS\n", Some((7, Fault::NotYet))),
+    (" x R 1\nSOS\n", Some((7, Fault::NoEnd))),
+    (" x R 1\nARCS\n", Some((7, Fault::NoEnd))),
+    (" x R 1\nSOS\nRHS\n", Some((8, Fault::SectionOrder))),
     (
         " M 'MARKER' 'INTORG'\n x C 1\nSOS\n",
         Some((8, Fault::Marker)),
@@ -229,11 +229,11 @@ const BEHIND: [(&str, Option<(u32, Fault)>); 46] = [
         " x R 1\nBOUNDS\n UP A x 1\n UP B z 1x\n ZZ B z\n",
         Some((10, Fault::UnknownKind)),
     ),
-    (" x R 1\nBOUNDS\n SC x 4\n", Some((8, Fault::NotYet))),
+    (" x R 1\nBOUNDS\n SC x 4\n", Some((8, Fault::NoEnd))),
     (" x R 1\nBOUNDS\n SC x\n", Some((8, Fault::BadWords))),
     (
         " x R 1\nBOUNDS\n UP A x 1\n SC B z 1x\n",
-        Some((9, Fault::NotYet)),
+        Some((9, Fault::NoEnd)),
     ),
     (" x R 1\nBOUNDS\n UP x 1e20\n LO x -1e20\nENDATA\n", None),
     (
@@ -246,6 +246,75 @@ const BEHIND: [(&str, Option<(u32, Fault)>); 46] = [
     (
         " x R 1\nBOUNDS\n LO x 5\n UP x 4\nENDATA\n",
         Some((10, Fault::CrossedBounds)),
+    ),
+];
+
+/// What the lines of the three forms below stand behind: rows, columns of which one is integer, and bounds.
+const FORMS_FRONT: &str =
+    "ROWS\n N C\n L R\n N W\nCOLUMNS\n x C 1 W 1\n y C 2 W 3\n S1 W 2\n z R 1\n M 'MARKER' 'INTORG'\n k C 1\n M 'MARKER' 'INTEND'\nBOUNDS\n UP B x 1\n UP B y 1\n UP B S1 1\n UP B z 4\n UP B k 3\n";
+
+/// Lines of ordered sets, of quadratic arcs and of semicontinuous bounds, behind [`FORMS_FRONT`].
+const FORMS: [(&str, Option<(u32, Fault)>); 46] = [
+    ("SOS\n S1 A\n x 1\n y 2\nENDATA\n", None),
+    ("SOS\n S2 A W\n y\n x\nENDATA\n", None),
+    ("SOS\n S1 A\n x 1\n S2 B W\n y\n S1 C\n x 3\nENDATA\n", None),
+    ("SOS\n S1 A W\n S1 B\n x\n", Some((22, Fault::BadWords))),
+    ("SOS\n S1 A\n S1 B W\n x 1\n", Some((22, Fault::BadWords))),
+    (
+        "SOS\n S1 A R\n x\n y\nENDATA\n",
+        Some((23, Fault::TwiceWeight)),
+    ),
+    ("SOS\n S1 A Z\n", Some((20, Fault::UnknownRow))),
+    ("SOS\n S1 A\n S2 A Z\n", Some((21, Fault::UnknownRow))),
+    ("SOS\n S1 A\n S2 A W\n", Some((21, Fault::TwiceSet))),
+    ("SOS\n S1\n", Some((20, Fault::BadWords))),
+    ("SOS\n S1 A W x\n", Some((20, Fault::BadWords))),
+    ("SOS\n S3 A\n", Some((20, Fault::BadWords))),
+    ("SOS\n S1 S1\n S1 2\nENDATA\n", Some((22, Fault::EmptySet))),
+    ("SOS\n S2 S2 W\n S1\n", Some((21, Fault::BadWords))),
+    ("SOS\n x\n", Some((20, Fault::BadWords))),
+    ("SOS\n S1 A\n x 1 2\n", Some((21, Fault::BadWords))),
+    ("SOS\n S1 A\n x 1x\n x 1e\n", Some((21, Fault::BadNumber))),
+    ("SOS\n S1 A\n z0 1e401\n", Some((21, Fault::TooWide))),
+    ("SOS\n S1 A\n z0 1\n", Some((21, Fault::UnknownColumn))),
+    ("SOS\n S1 A\n x 1\n x 2\n", Some((22, Fault::TwiceMember))),
+    ("SOS\n S1 A\n x 0.0000001\n", Some((21, Fault::TooFine))),
+    ("SOS\n S1 A\n x 2147483649\n", Some((21, Fault::TooLarge))),
+    (
+        "SOS\n S1 A\n x 1\n y 1.0\nENDATA\n",
+        Some((23, Fault::TwiceWeight)),
+    ),
+    ("SOS\n S1 A\nENDATA\n", Some((21, Fault::EmptySet))),
+    ("SOS\nARCS\n S1 A\n", Some((21, Fault::BadWords))),
+    ("ARCS\n Q C x 2.5\n Q C y -1\nENDATA\n", None),
+    ("ARCS\n Q W x 1\n", Some((20, Fault::ArcRow))),
+    ("ARCS\n Q R x 1\n", Some((20, Fault::ArcRow))),
+    ("ARCS\n Q Z z0 1\n", Some((20, Fault::UnknownRow))),
+    ("ARCS\n Q C z0 1\n", Some((20, Fault::UnknownColumn))),
+    ("ARCS\n Q C x 0\n Q C x 1\n", Some((21, Fault::TwiceEntry))),
+    ("ARCS\n q C x 1x\n", Some((20, Fault::UnknownKind))),
+    ("ARCS\n Q C x 1x\n", Some((20, Fault::BadNumber))),
+    ("ARCS\n Q C x\n", Some((20, Fault::BadWords))),
+    (
+        "SOS\n S1 A\n x 1\n y 2\nARCS\n Q C x 1\nENDATA\n",
+        Some((25, Fault::ArcInSet)),
+    ),
+    ("SOS\n S1 A\n x 1\n y 2\nARCS\n Q C x 0\nENDATA\n", None),
+    (" SC B z 4\n LO B z 1\nENDATA\n", None),
+    (
+        " LO B z 5\n SC B z 4\nENDATA\n",
+        Some((21, Fault::CrossedBounds)),
+    ),
+    (" SC B k 3\n", Some((19, Fault::SemiInteger))),
+    (" SC B z 4\n BV B z\n", Some((20, Fault::SemiInteger))),
+    (" BV B z\n SC B z 4\n", Some((20, Fault::SemiInteger))),
+    (" SC B z\n", Some((19, Fault::NoEnd))),
+    (" SC D z0 1x\n SC z 1x\nENDATA\n", None),
+    (" SC B z 4x\n", Some((19, Fault::BadNumber))),
+    (" SC B z 1e30\n", Some((19, Fault::TooLarge))),
+    (
+        " LO B z -1\n SC B z 4\nENDATA\n",
+        Some((21, Fault::SemiLower)),
     ),
 ];
 
@@ -365,6 +434,10 @@ fn damaged(rt: HostRuntime) -> Result<(), Fail> {
     }
     for (back, want) in BEHIND {
         let text = joined(rt.alloc(), FRONT, back)?;
+        assert!(rt; fault_in(rt.alloc(), text.as_slice()) == want, "{back:?}");
+    }
+    for (back, want) in FORMS {
+        let text = joined(rt.alloc(), FORMS_FRONT, back)?;
         assert!(rt; fault_in(rt.alloc(), text.as_slice()) == want, "{back:?}");
     }
     Ok(())

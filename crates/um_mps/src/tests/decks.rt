@@ -1,10 +1,10 @@
 //! Decks that are read. The expected numbers are those of a reader in another language.
 
 use super::*;
-use um_deck::{Deck, Kind};
+use um_deck::{Deck, Kind, SetKind};
 
-/// The lines of a planning deck, up to its ordered sets.
-const PLANTS: [&str; 80] = [
+/// The lines of a planning deck.
+const PLANTS: [&str; 97] = [
     "NAME PLANTS",
     "ROWS",
     " N COST",
@@ -85,40 +85,61 @@ const PLANTS: [&str; 80] = [
     " UP BND TA 6",
     " UP BND TB 6",
     " UP BND TC 6",
+    "SOS",
+    " S2 SA REFA",
+    " A0",
+    " A1",
+    " A2",
+    " A3",
+    " S2 SB REFB",
+    " B0",
+    " B1",
+    " B2",
+    " B3",
+    " S2 SC REFC",
+    " C0",
+    " C1",
+    " C2",
+    " C3",
+    "ENDATA",
 ];
 
 /// Decks, and the numbers that [`numbers`] gives for them.
-const DECKS: [(&str, [i64; 12]); 6] = [
+const DECKS: [(&str, [i64; 14]); 7] = [
     (
         "NAME\nROWS\n N C\nCOLUMNS\nENDATA\n",
-        [0, 0, 0, 0, 0, 0, 0, 0, 0, 0, 0, 0],
+        [0, 0, 0, 0, 0, 0, 0, 0, 0, 0, 0, 0, 0, 0],
     ),
     (
         "ROWS\n N C\n L R\nCOLUMNS\n x C -1 R 1\n y R -1\nRHS\n R 1\nBOUNDS\n UP BND x 1e30\nENDATA\n",
-        [0, 0, 1, 0, -7, 1, 2, 0, 0, -21, -1, -1],
+        [0, 0, 1, 0, -7, 1, 2, 0, 0, -21, -1, -1, 0, 0],
     ),
     (
         "ROWS\n N C\n E R\nCOLUMNS\n x R .25\nRHS\n R 10\nRANGES\n R -4\nENDATA\n",
-        [0, 0, 1, 2, 600, 1000, 1, 0, 0, -7, 0, 25],
+        [0, 0, 1, 2, 600, 1000, 1, 0, 0, -7, 0, 25, 0, 0],
     ),
     (
         "OBJSENSE MIN\n MAXIMIZE\nROWS\n N C\n N F\n G R\nCOLUMNS\n x C 1.5 R 0\n x F 1e-9\n y R 2\nRHS\n A C 5 R 3\n B R 7\nRANGES\n R -2\n A R 9\nENDATA\n",
-        [1, 50, 1, 0, 3, 5, 2, 0, 0, -21, -15, 4],
+        [1, 50, 1, 0, 3, 5, 2, 0, 0, -21, -15, 4, 0, 0],
     ),
     (
         "ROWS\n N C\n L R\nCOLUMNS\n M 'MARKER' 'INTORG'\n x C 1\n M 'MARKER' 'INTEND'\n y C 2 R 3\nBOUNDS\n FX A y 1.5\n BV A x\n UP A y 7\n LI B x 1\n MI A y\nENDATA\n",
-        [0, 0, 1, 0, -7, 0, 2, 1, -14, 15000, 5, 6],
+        [0, 0, 1, 0, -7, 0, 2, 1, -14, 15000, 5, 6, 0, 0],
     ),
     (
         "ROWS\n N C\nCOLUMNS\n x C 1\n y C 1\n z C 1\nBOUNDS\n UP x -1\n LO y -2\n UP y -1\n LO z 1\n FR A z\n LO z -1e20\n PL z\nENDATA\n",
-        [0, 0, 0, 0, 0, 0, 3, 0, -4028, -3021, 6, 0],
+        [0, 0, 0, 0, 0, 0, 3, 0, -4028, -3021, 6, 0, 0, 0],
+    ),
+    (
+        "ROWS\n N C\n N W\nCOLUMNS\n x W 2\n y W 1\n z C 1\n v C 1\n w C 1\nBOUNDS\n UP B x 1\n UP B y 1\n UP B z 4\n SC B v 3\n LO B v 1\n SC B w 2.5\nSOS\n S1 A W\n x\n y\n S2 B\n y 1.5\n x -2\nARCS\n Q C z 2.5\n Q C x 0\nENDATA\n",
+        [1, 0, 0, 0, 0, 0, 5, 4018, 0, 39500, 120, 0, 12000024, 52],
     ),
 ];
 
-const PLANT_NUMBERS: [i64; 12] = [0, 0, 2, 0, -21, 36, 2, 3, 0, 30000, -13, 24];
+const PLANT_NUMBERS: [i64; 14] = [0, 0, 2, 0, -21, 36, 2, 3, 0, 30000, -13, 24, 0, 0];
 
-const PLANTS_NUMBERS: [i64; 12] = [
-    1, 0, 13, 46, 482, 634950, 18, 51, 0, 3734000, 365475, 155583,
+const PLANTS_NUMBERS: [i64; 14] = [
+    1, 0, 13, 46, 482, 634950, 18, 51, 0, 3734000, 365475, 155583, 7290001302, 0,
 ];
 
 /// The sum of the numbers told, each times its place from 1.
@@ -160,19 +181,28 @@ fn row_numbers(deck: &Deck) -> [i64; 4] {
     [scales.place, scales.sum, lows.sum, highs.sum]
 }
 
-/// How many columns, and the sums of their being integer, of low ends, high ends and costs.
+/// A column's kind: 0, 1, or 2 and more by the threshold of a semicontinuous one.
+fn kind_number(kind: Kind) -> i64 {
+    match kind {
+        Kind::Continuous => 0,
+        Kind::Integer => 1,
+        Kind::Semi(threshold) => threshold.wrapping_add(2),
+    }
+}
+
+/// How many columns, and the sums of their kinds, of low ends, high ends and costs.
 fn column_numbers(deck: &Deck) -> [i64; 5] {
-    let mut integers = Sum::new();
+    let mut kinds = Sum::new();
     let mut lows = Sum::new();
     let mut highs = Sum::new();
     let mut costs = Sum::new();
     for column in deck.columns() {
-        integers.tell(i64::from(column.kind == Kind::Integer));
+        kinds.tell(kind_number(column.kind));
         lows.tell_end(column.low);
         highs.tell_end(column.high);
         costs.tell(column.cost);
     }
-    [costs.place, integers.sum, lows.sum, highs.sum, costs.sum]
+    [costs.place, kinds.sum, lows.sum, highs.sum, costs.sum]
 }
 
 /// The sum over the columns of what they have in rows, each times the row's place from 1.
@@ -189,10 +219,36 @@ fn entry_number(deck: &Deck) -> i64 {
     entries.sum
 }
 
-/// The scale and the constant of the objective, and the numbers of rows, columns and entries.
-fn numbers(deck: &Deck) -> [i64; 12] {
+/// The sum over the sets of their kinds, and of the columns and weights of their members.
+fn set_number(deck: &Deck) -> i64 {
+    let mut sets = Sum::new();
+    for set in deck.sets() {
+        sets.tell(match set.kind {
+            SetKind::S1 => 1,
+            SetKind::S2 => 2,
+        });
+        for member in set.members.as_slice() {
+            sets.tell(i64::from(member.column));
+            sets.tell(member.weight);
+        }
+    }
+    sets.sum
+}
+
+/// The sum over the arcs of their columns and values.
+fn arc_number(deck: &Deck) -> i64 {
+    let mut arcs = Sum::new();
+    for arc in deck.arcs() {
+        arcs.tell(i64::from(arc.column));
+        arcs.tell(arc.value);
+    }
+    arcs.sum
+}
+
+/// The scale and the constant of the objective, and the numbers of rows, columns, entries, sets and arcs.
+fn numbers(deck: &Deck) -> [i64; 14] {
     let [rows, scales, row_lows, row_highs] = row_numbers(deck);
-    let [columns, integers, lows, highs, costs] = column_numbers(deck);
+    let [columns, kinds, lows, highs, costs] = column_numbers(deck);
     [
         i64::from(deck.scale()),
         deck.constant(),
@@ -201,18 +257,20 @@ fn numbers(deck: &Deck) -> [i64; 12] {
         row_lows,
         row_highs,
         columns,
-        integers,
+        kinds,
         lows,
         highs,
         costs,
         entry_number(deck),
+        set_number(deck),
+        arc_number(deck),
     ]
 }
 
-fn numbers_in(alloc: Global, text: &[u8]) -> [i64; 12] {
+fn numbers_in(alloc: Global, text: &[u8]) -> [i64; 14] {
     match read(alloc, text) {
         Ok(deck) => numbers(&deck),
-        Err(_) => [-1; 12],
+        Err(_) => [-1; 14],
     }
 }
 
@@ -236,13 +294,6 @@ fn planning_decks(rt: HostRuntime) -> Result<(), Fail> {
     for line in PLANTS {
         put_line(&mut plants, line)?;
     }
-    put_line(&mut plants, "SOS")?;
-    assert!(rt;
-        fault_in(rt.alloc(), plants.as_slice()) == Some((81, Fault::NotYet)),
-        "SOS"
-    );
-    plants.truncate(plants.len().saturating_sub(4));
-    put_line(&mut plants, "ENDATA")?;
     assert_eq!(rt;
         numbers_in(rt.alloc(), plants.as_slice()),
         PLANTS_NUMBERS,

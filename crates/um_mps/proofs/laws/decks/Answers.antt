@@ -14,4 +14,4 @@ use Rattle.um_mps.proofs.laws.decks.Goals as goal
 
 pub returns : goal.returns
 unfolding pieces without_return lines unsigned is_decimal exponent_value tens normal decimal_value fitting decimal_number places collected rules_of with_statement deck_rules line_of deck_lines section_now data_now place_of line_says told line_fault counted broken text_fault text_deck deck_value
-returns c = record { plant_said = refl; small_said = refl; range_sides = refl; first_set_sides = refl; first_set_constant = refl }
+returns c = record { plant_said = refl; small_said = refl; range_sides = refl; first_set_sides = refl; first_set_constant = refl; forms_said = refl; forms_whole = refl }

@@ -1,8 +1,8 @@
 -- Lines of few words.
 use Rattle.std.specs.Prelude.{◌≡◌, ◌⊎◌, ◌<◌, [], ◌∷◌, length}
-use Rattle.um_mps.specs.DeckLines.{Words}
-use Rattle.um_mps.specs.declared.few.Few.{Few}
-use Rattle.um_mps.specs.declared.few.Few.TheVariants.{One, Two, Three, Four, Five, Other}
+use Rattle.um_setsec.specs.Words.{Words}
+use Rattle.um_setsec.specs.declared.few.Few.{Few}
+use Rattle.um_setsec.specs.declared.few.Few.TheVariants.{One, Two, Three, Four, Five, Other}
 
 -- the words are these, and their number is none of one to five at `Other`
 abbrev pub AreWords : Words → Few → Type 0

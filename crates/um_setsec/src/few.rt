@@ -1,7 +1,7 @@
 //! The words of a line, by their number.
 
 ghost use Rattle.std.specs.Prelude.{◌≡◌, [], slice_index_or};
-ghost use Rattle.um_mps.specs.Few.{AreWords};
+ghost use Rattle.um_setsec.specs.Few.{AreWords};
 
 use um_text::Words;
 

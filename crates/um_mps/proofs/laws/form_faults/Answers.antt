@@ -1,0 +1,17 @@
+use Rattle.std.proofs.Common.{refl}
+use Rattle.um_text.specs.Lines.{pieces, without_return, lines}
+use Rattle.um_text.specs.Decimals.{unsigned, is_decimal, exponent_value, tens, normal, decimal_value, fitting, decimal_number}
+use Rattle.um_text.specs.Numerals.{places}
+use Rattle.um_statements.specs.Said.{collected}
+use Rattle.um_statements.specs.CallRules.{rules_of, with_statement}
+use Rattle.um_statements.specs.DeckRules.{deck_rules}
+use Rattle.um_statements.specs.Made.{deck_value}
+use Rattle.um_mps.specs.DeckLines.{line_of, deck_lines, section_now, data_now}
+use Rattle.um_mps.specs.Places.{place_of}
+use Rattle.um_mps.specs.LinesSay.{line_says}
+use Rattle.um_mps.specs.DeckText.{told, line_fault, counted, broken, text_fault, text_deck}
+use Rattle.um_mps.proofs.laws.form_faults.Goals as goal
+
+pub returns : goal.returns
+unfolding pieces without_return lines unsigned is_decimal exponent_value tens normal decimal_value fitting decimal_number places collected rules_of with_statement deck_rules line_of deck_lines section_now data_now place_of line_says told line_fault counted broken text_fault text_deck deck_value
+returns c = record { member_first = refl; unknown_set_kind = refl; weight_wanted = refl; weight_unwanted = refl; last_set_counts = refl; kind_as_name = refl; weight_first = refl; member_twice = refl; arc_kind = refl; arc_words = refl; arc_number = refl; arc_again = refl; semi_fine = refl; semi_then_integer = refl }

@@ -1,0 +1,4 @@
+pub mod Words
+pub mod Few
+pub mod Numbers
+pub mod SetLines
