@@ -8,14 +8,16 @@ use Rattle.um_model.specs.WellFormed.{IsDeck}
 use Rattle.um_statements.specs.Statements.{Name, Statement, Title}
 use Rattle.um_statements.specs.Said.{Said, nothing_said}
 use Rattle.um_statements.specs.CallRules.{rules_of, with_statement}
-use Rattle.um_round.specs.NormalLines.{sides_of, ranges_of, column_bounds}
-use Rattle.um_round.proofs.NormalTold.{section_told, sense_told, rows_told, columns_told, side_told, range_told, bound_told, front_told, back_told, normal_statements}
-use Rattle.um_round.proofs.NormalSaid.{Runs, behind_rows, behind_columns, behind_sides, behind_ranges, normal_said}
+use Rattle.um_make.specs.NormalLines.{sides_of, ranges_of, column_bounds}
+use Rattle.um_round.proofs.NormalTold.{section_told, sense_told, rows_told, columns_told, side_told, range_told, bound_told, sets_told, arc_told, front_told, back_told, normal_statements}
+use Rattle.um_round.proofs.NormalSaid.{Runs, HasObjectiveArcs, behind_rows, behind_columns, behind_sides, behind_ranges, behind_bounds, behind_sets, normal_said}
 use Rattle.um_round.proofs.Runs.{run_none, run_both}
 use Rattle.um_round.proofs.RowsRun.{rows-run-law}
 use Rattle.um_round.proofs.ColumnsRun.{columns-run-law}
 use Rattle.um_round.proofs.SidesRun.{sides-run-law, ranges-run-law}
 use Rattle.um_round.proofs.BoundsRun.{bounds-run-law}
+use Rattle.um_round.proofs.SetsRun.{sets-run-law}
+use Rattle.um_round.proofs.ArcsRun.{arcs-run-law}
 
 abbrev all_of : List (List Statement) → List Statement
 all_of = flat_map (λ told. told)
@@ -52,15 +54,27 @@ front_run d deck =
     run_list nothing_said (behind_rows d) (front_told d) ((Title d.name ∷ all_of (sense_told d.maximise)) ++ all_of (rows_told d)) told
     (run_both nothing_said (begun d.name d.maximise) (behind_rows d) (Title d.name ∷ all_of (sense_told d.maximise)) (all_of (rows_told d)) head rows)
 
-pub run-law : (d : DeckValue) → IsDeck d → Runs nothing_said (normal_statements d) (normal_said d)
-run-law d deck =
-    let columns = columns-run-law d deck in
+-- from behind COLUMNS on
+back_run : (d : DeckValue) → IsDeck d → HasObjectiveArcs d → Runs (behind_columns d) (all_of (back_told d)) (normal_said d)
+back_run d deck only =
+    let end = normal_said d in
+    let t1 = section_told (map side_told (sides_of d)) in
+    let t2 = section_told (map range_told (ranges_of d)) in
+    let t3 = section_told (map bound_told (flat_map column_bounds d.columns)) in
+    let t4 = section_told (sets_told d) in
+    let t5 = section_told (map (arc_told d) d.arcs) in
     let sides = mapped_run (behind_columns d) (behind_sides d) side_told (sides_of d) (sides-run-law d deck) in
     let ranges = mapped_run (behind_sides d) (behind_ranges d) range_told (ranges_of d) (ranges-run-law d deck) in
-    let bounds = mapped_run (behind_ranges d) (normal_said d) bound_told (flat_map column_bounds d.columns) (bounds-run-law d deck) in
-    let last = run_none (normal_said d) in
-    let a3 = run_lists (behind_ranges d) (normal_said d) (normal_said d) (section_told (map bound_told (flat_map column_bounds d.columns))) ([] ∷ []) bounds last in
-    let a2 = run_lists (behind_sides d) (behind_ranges d) (normal_said d) (section_told (map range_told (ranges_of d))) (section_told (map bound_told (flat_map column_bounds d.columns)) ++ [] ∷ []) ranges a3 in
-    let a1 : Runs (behind_columns d) (all_of (back_told d)) (normal_said d) = run_lists (behind_columns d) (behind_sides d) (normal_said d) (section_told (map side_told (sides_of d))) (section_told (map range_told (ranges_of d)) ++ (section_told (map bound_told (flat_map column_bounds d.columns)) ++ [] ∷ [])) sides a2 in
+    let bounds = mapped_run (behind_ranges d) (behind_bounds d) bound_told (flat_map column_bounds d.columns) (bounds-run-law d deck) in
+    let sets = section_run (behind_bounds d) (behind_sets d) (sets_told d) (sets-run-law d deck) in
+    let arcs = mapped_run (behind_sets d) end (arc_told d) d.arcs (arcs-run-law d deck only) in
+    let a5 = run_lists (behind_sets d) end end t5 ([] ∷ []) arcs (run_none end) in
+    let a4 = run_lists (behind_bounds d) (behind_sets d) end t4 (t5 ++ [] ∷ []) sets a5 in
+    let a3 = run_lists (behind_ranges d) (behind_bounds d) end t3 (t4 ++ (t5 ++ [] ∷ [])) bounds a4 in
+    let a2 = run_lists (behind_sides d) (behind_ranges d) end t2 (t3 ++ (t4 ++ (t5 ++ [] ∷ []))) ranges a3 in
+    run_lists (behind_columns d) (behind_sides d) end t1 (t2 ++ (t3 ++ (t4 ++ (t5 ++ [] ∷ [])))) sides a2
+
+pub run-law : (d : DeckValue) → IsDeck d → HasObjectiveArcs d → Runs nothing_said (normal_statements d) (normal_said d)
+run-law d deck only =
     run_lists nothing_said (behind_rows d) (normal_said d) (front_told d) ([] ∷ columns_told d ++ back_told d) (front_run d deck)
-    (run_lists (behind_rows d) (behind_columns d) (normal_said d) ([] ∷ columns_told d) (back_told d) columns a1)
+    (run_lists (behind_rows d) (behind_columns d) (normal_said d) ([] ∷ columns_told d) (back_told d) (columns-run-law d deck) (back_run d deck only))

@@ -8,7 +8,7 @@ use Rattle.um_mps.specs.DeckLines.{Line}
 use Rattle.um_statements.specs.Tells.{Says}
 use Rattle.um_mps.specs.Places.{place_of}
 use Rattle.um_mps.specs.LinesSay.{line_says}
-use Rattle.um_round.specs.NormalLines.{columns_data, front_lines, columns_lines, back_lines, normal_lines}
+use Rattle.um_make.specs.NormalLines.{columns_data, front_lines, columns_lines, back_lines, normal_lines}
 use Rattle.um_round.proofs.NormalTold.{front_told, columns_told, back_told, normal_told}
 use Rattle.um_round.specs.Sayable.{HasWordNames}
 use Rattle.um_round.proofs.LinesTold.{oks, said_by, each_append, oks-append}

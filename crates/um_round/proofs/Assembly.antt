@@ -6,6 +6,7 @@ use Rattle.std.proofs.lemmas.Bool.{cond-false, le-ltb}
 use Rattle.std.proofs.lemmas.List.{append-nil}
 use Rattle.um_model.specs.Values.{DeckValue}
 use Rattle.um_model.specs.WellFormed.{IsDeck}
+use Rattle.um_statements.specs.Laws.{IsDeckOfObjective}
 use Rattle.um_statements.specs.declared.fault.Fault.{Fault}
 use Rattle.um_statements.specs.Statements.{Name, Statement}
 use Rattle.um_statements.specs.Said.{Said, nothing_said, collected}
@@ -13,18 +14,19 @@ use Rattle.um_statements.specs.CallRules.{fault_of, with_statement, faults_in, w
 use Rattle.um_statements.specs.DeckRules.{deck_fault}
 use Rattle.um_statements.proofs.CollectedSteps.{collected-law}
 use Rattle.um_statements.specs.Made.{deck_value}
-use Rattle.um_mps.specs.DeckLines.{Words, Line, Heading, Data, deck_lines}
+use Rattle.um_setsec.specs.Words.{Words}
+use Rattle.um_mps.specs.DeckLines.{Line, Heading, Data, deck_lines}
 use Rattle.um_statements.specs.Tells.{Says, statements, says_fault}
 use Rattle.um_mps.specs.Places.{place_of}
 use Rattle.um_mps.specs.LinesSay.{line_says}
 use Rattle.um_mps.specs.DeckText.{each_from, told, is_end, line_fault, counted, first_broken, text_fault, text_deck, DeckText}
 use Rattle.um_mps.specs.Reading.{fault_behind}
 use Rattle.um_mps.proofs.FirstBroken.{first_found}
-use Rattle.um_round.specs.NormalLines.{title_words, sense_lines, section_of, columns_lines, back_lines, rows_data, columns_data, sides_data, ranges_data, bounds_data, sides_of, ranges_of, column_bounds, normal_lines, normal_text}
+use Rattle.um_make.specs.NormalLines.{title_words, sense_lines, section_of, columns_lines, back_lines, rows_data, columns_data, sides_data, ranges_data, bounds_data, sets_data, arcs_data, sides_of, ranges_of, column_bounds, normal_lines, normal_text}
 use Rattle.um_round.proofs.EachItem.{Each}
-use Rattle.um_round.proofs.NormalTold.{side_told, range_told, bound_told, section_told, front_told, columns_told, back_told, normal_told, normal_statements}
-use Rattle.um_round.specs.Sayable.{HasWordNames, IsSayable}
-use Rattle.um_round.proofs.NormalSaid.{Runs, normal_said}
+use Rattle.um_round.proofs.NormalTold.{side_told, range_told, bound_told, sets_told, arc_told, section_told, front_told, columns_told, back_told, normal_told, normal_statements}
+use Rattle.um_round.specs.Sayable.{HasWordNames}
+use Rattle.um_round.proofs.NormalSaid.{Runs, HasObjectiveArcs, normal_said}
 use Rattle.um_round.proofs.LinesTold.{oks, said_by, each_append}
 use Rattle.um_round.proofs.WordLines.{normal-lines-law}
 use Rattle.um_round.proofs.AllTold.{told-law}
@@ -104,7 +106,9 @@ normal_ended d =
     let back : Ended (back_lines d) =
     ended_push (section_of (codes "RHS") (sides_data d)) _ (section_on (codes "RHS") (sides_data d) refl)
     (ended_push (section_of (codes "RANGES") (ranges_data d)) _ (section_on (codes "RANGES") (ranges_data d) refl)
-    (ended_push (section_of (codes "BOUNDS") (bounds_data d)) (Heading (codes "ENDATA" ∷ []) ∷ []) (section_on (codes "BOUNDS") (bounds_data d) refl) refl)) in
+    (ended_push (section_of (codes "BOUNDS") (bounds_data d)) _ (section_on (codes "BOUNDS") (bounds_data d) refl)
+    (ended_push (section_of (codes "SOS") (sets_data d)) _ (section_on (codes "SOS") (sets_data d) refl)
+    (ended_push (section_of (codes "ARCS") (arcs_data d)) (Heading (codes "ENDATA" ∷ []) ∷ []) (section_on (codes "ARCS") (arcs_data d) refl) refl)))) in
     let middle : Ended (columns_lines d ++ back_lines d) = ended_push (columns_lines d) (back_lines d) (refl, data_on (columns_data d)) back in
     ended_cons (Heading (title_words d.name)) ((sense_lines d.maximise ++ section_of (codes "ROWS") (rows_data d)) ++ (columns_lines d ++ back_lines d)) (title_on d.name)
     (subst (λ (ls : List Line). Ended ls) (sym (append_assoc (sense_lines d.maximise) (section_of (codes "ROWS") (rows_data d)) (columns_lines d ++ back_lines d)))
@@ -124,8 +128,8 @@ quiet_push : (xs ys : List (List Statement)) → LastQuiet ys → LastQuiet (xs 
 quiet_push [] ys h = h
 quiet_push (x ∷ xs) ys h = quiet_cons x (xs ++ ys) (quiet_push xs ys h)
 
-back_quiet : (a b c : List (List Statement)) → LastQuiet (a ++ (b ++ (c ++ [] ∷ [])))
-back_quiet a b c = quiet_push a _ (quiet_push b _ (quiet_push c ([] ∷ []) refl))
+back_quiet : (a b c e f : List (List Statement)) → LastQuiet (a ++ (b ++ (c ++ (e ++ (f ++ [] ∷ [])))))
+back_quiet a b c e f = quiet_push a _ (quiet_push b _ (quiet_push c _ (quiet_push e _ (quiet_push f ([] ∷ []) refl))))
 
 -- ---- faults
 
@@ -207,15 +211,23 @@ told_all : (lines : List Line) (tss : List (List Statement)) → said_by [] line
 unfolding told
 told_all lines tss e = told_from lines [] tss e
 
-pub round-law : (d : DeckValue) → IsDeck d → HasWordNames d → IsSayable d → length (normal_text d) ≤ 16777216 → DeckText (normal_text d) d
-round-law d deck names sayable short =
+-- where what is known behind all lines breaks no rule and is this deck, the text is a text of this deck
+round_from : (d : DeckValue) → IsDeck d → HasWordNames d → HasObjectiveArcs d → deck_fault (normal_said d) ≡ None → deck_value (normal_said d) ≡ d → length (normal_text d) ≤ 16777216 → DeckText (normal_text d) d
+round_from d deck names arcs deck_fine deck_back short =
     let says = told-law d deck names in
-    let runs = run-law d deck in
+    let runs = run-law d deck arcs in
     let ended = normal_ended d in
-    let quiet = quiet_push (front_told d) _ (quiet_push ([] ∷ columns_told d) (back_told d) (back_quiet (section_told (map side_told (sides_of d))) (section_told (map range_told (ranges_of d))) (section_told (map bound_told (flat_map column_bounds d.columns))))) in
+    let back = back_quiet (section_told (map side_told (sides_of d))) (section_told (map range_told (ranges_of d))) (section_told (map bound_told (flat_map column_bounds d.columns))) (section_told (sets_told d)) (section_told (map (arc_told d) d.arcs)) in
+    let quiet = quiet_push (front_told d) _ (quiet_push ([] ∷ columns_told d) (back_told d) back) in
     let same : collected (normal_statements d) ≡ normal_said d = collected-law (normal_statements d) runs.fine ∙ runs.knows in
-    let whole = fine_behind (normal_statements d) (normal_said d) runs (deck-fine-law d deck sayable) (normal_lines d) [] (normal_told d) [] no_lines_told says ended quiet refl runs.fine in
+    let whole = fine_behind (normal_statements d) (normal_said d) runs deck_fine (normal_lines d) [] (normal_told d) [] no_lines_told says ended quiet refl runs.fine in
     record {
       unbroken = fault_of_lines d (normal_text d) (normal_lines d) (normal-lines-law d deck names) short whole;
-      deck = sym (deck_of_lines (normal_text d) (normal_lines d) (normal_statements d) (normal-lines-law d deck names) (counted_all (normal_lines d) ended) (told_all (normal_lines d) (normal_told d) says) ∙ ap deck_value same ∙ deck-back-law d deck sayable);
+      deck = sym (deck_of_lines (normal_text d) (normal_lines d) (normal_statements d) (normal-lines-law d deck names) (counted_all (normal_lines d) ended) (told_all (normal_lines d) (normal_told d) says) ∙ ap deck_value same ∙ deck_back);
     }
+
+pub round-law : (d : DeckValue) → IsDeckOfObjective d → HasWordNames d → length (normal_text d) ≤ 16777216 → DeckText (normal_text d) d
+round-law d deck names short =
+    let formed = deck.formed in
+    let arcs = deck.objective_arcs in
+    round_from d formed names arcs (deck-fine-law d formed arcs) (deck-back-law d formed arcs) short

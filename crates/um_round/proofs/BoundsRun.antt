@@ -9,7 +9,9 @@ use Rattle.std.proofs.lemmas.List.{append-nil, length-map}
 use Rattle.std.proofs.lemmas.List.Folds.{list_any-append}
 use Rattle.um_num.specs.declared.decimal.Decimal.{Decimal}
 use Rattle.um_model.specs.Values.{DeckValue, ColumnValue}
-use Rattle.um_model.specs.WellFormed.{IsDeck, IsColumn, IsWithin}
+use Rattle.um_model.specs.WellFormed.{IsDeck, IsColumn, KindFits, IsWithin}
+use Rattle.um_model.specs.declared.deck.Kind.{Kind}
+use Rattle.um_model.specs.declared.deck.Kind.TheVariants.{Continuous, Integer, Semi}
 use Rattle.um_statements.specs.declared.parts.BoundKind.{BoundKind}
 use Rattle.um_statements.specs.declared.parts.BoundKind.TheVariants.{Lo}
 use Rattle.um_statements.specs.declared.parts.Ends.{Ends}
@@ -19,11 +21,11 @@ use Rattle.um_statements.specs.Scaled.{is_whole_at, at_least_zero}
 use Rattle.um_statements.specs.Said.{Said, RowSaid, ColumnSaid, column_place, ends_of, makes_integer, makes_semi}
 use Rattle.um_statements.specs.CallRules.{rules_of, with_statement, change_columns, bare_ends, is_large_bound, mixes}
 use Rattle.um_statements.proofs.LastBounds.{ends-law}
-use Rattle.um_round.specs.NormalLines.{BoundPart, is_zero_number, ends_bounds, column_bounds}
+use Rattle.um_make.specs.NormalLines.{BoundPart, is_zero_number, ends_bounds, kind_bounds, column_bounds}
 use Rattle.um_round.proofs.EachItem.{Each, Each-append, Each-from, Each-if}
 use Rattle.um_round.proofs.NormalTold.{bound_told}
 use Rattle.um_round.specs.Numerals.{written}
-use Rattle.um_round.proofs.NormalSaid.{Runs, is_integer, column_bare, column_known, rows_known, behind_ranges, normal_said}
+use Rattle.um_round.proofs.NormalSaid.{Runs, is_integer, column_bare, column_known, rows_known, behind_ranges, behind_bounds}
 use Rattle.um_round.proofs.Runs.{run_none, run_one, run_both}
 use Rattle.um_round.proofs.Numerals.{scaled_back, decimals_most}
 use Rattle.um_round.proofs.ColumnsTold.{Apart, Apart-from, same_name}
@@ -144,6 +146,21 @@ mild_ends integer name None (Some high) h k = (record { own = refl; size = h; no
 mild_ends integer name (Some low) None h k = Each-if (IsMild integer name) (is_zero_number low) (name, Lo, Some low) (record { own = refl; size = h; not_integer = refl; not_semi = refl })
 mild_ends integer name (Some low) (Some high) h k = (record { own = refl; size = h; not_integer = refl; not_semi = refl }, (record { own = refl; size = k; not_integer = refl; not_semi = refl }, tt))
 
+-- a semicontinuous column isn't integer, and its threshold is no greater than its high end
+mild_kind : (kind : Kind) (name : Name) (low high : Option ℤ) → KindFits kind low high → ForSome low (IsWithin (10 ^ 10)) → ForSome high (IsWithin (10 ^ 10)) → Each (IsMild (is_integer kind) name) (kind_bounds name kind low high)
+mild_kind Continuous name low high fits h k = mild_ends false name low high h k
+mild_kind Integer name low high fits h k = mild_ends true name low high h k
+mild_kind (Semi threshold) name low None fits h k = tt
+mild_kind (Semi threshold) name low (Some high) fits h k =
+    let up : pos 0 ≤ℤ threshold = fits.2 in
+    let below : threshold ≤ℤ high = fits.3 high refl in
+    let most : unsigned_abs high ≤ 10 ^ 10 = k high refl in
+    let size : unsigned_abs threshold ≤ 10 ^ 10 = omega (arith, ints, up, below, most) in
+    (record { own = refl; size = within threshold size; not_integer = refl; not_semi = refl }, (record { own = refl; size = k; not_integer = refl; not_semi = refl }, tt))
+  where
+    within : (z : ℤ) → unsigned_abs z ≤ 10 ^ 10 → ForSome (Some z) (IsWithin (10 ^ 10))
+    within z h y e = let same : z ≡ y = cc in rw (← same) h
+
 -- ---- all columns
 
 module _ (d : DeckValue) where
@@ -172,7 +189,7 @@ module _ (d : DeckValue) where
       let back = map (column_bare d) cs in
       let told = flat_map bound_told (column_bounds c) in
       let more = flat_map (λ (c : ColumnValue). flat_map bound_told (column_bounds c)) cs in
-      let run = its_bounds d.name d.maximise (rows_known d) (column_bounds c) front c.name (is_integer c.kind) [] (column_bare d c).entries back (mild_ends (is_integer c.kind) c.name c.low c.high is.0.low is.0.high) refl others.0 (all_others c.name cs apart.0) in
+      let run = its_bounds d.name d.maximise (rows_known d) (column_bounds c) front c.name (is_integer c.kind) [] (column_bare d c).entries back (mild_kind c.kind c.name c.low c.high is.0.kind is.0.low is.0.high) refl others.0 (all_others c.name cs apart.0) in
       let here = subst (λ (x : ColumnSaid). Runs (at (front ++ x ∷ back)) told (at (front ++ column_known d c ∷ back))) (sym (bare_column c)) run in
       let rest = column_by_column cs (front ++ column_known d c ∷ []) is.1 (others_push front c cs others.1 apart.0) apart.1 in
       let moved = subst (λ (x : List ColumnSaid). Runs (at x) more (at ((front ++ column_known d c ∷ []) ++ map (column_known d) cs))) (append_assoc front (column_known d c ∷ []) back) rest in
@@ -183,7 +200,7 @@ none_before : (cs : List ColumnValue) → Each (λ (x : ColumnValue). Others x.n
 none_before [] = tt
 none_before (c ∷ cs) = (tt, none_before cs)
 
-pub bounds-run-law : (d : DeckValue) → IsDeck d → Runs (behind_ranges d) (flat_map bound_told (flat_map column_bounds d.columns)) (normal_said d)
+pub bounds-run-law : (d : DeckValue) → IsDeck d → Runs (behind_ranges d) (flat_map bound_told (flat_map column_bounds d.columns)) (behind_bounds d)
 bounds-run-law d deck =
-    subst (λ (x : List Statement). Runs (behind_ranges d) x (normal_said d)) (sym (flat_flat bound_told column_bounds d.columns))
+    subst (λ (x : List Statement). Runs (behind_ranges d) x (behind_bounds d)) (sym (flat_flat bound_told column_bounds d.columns))
     (column_by_column d d.columns [] (Each-from (IsColumn (length d.rows)) d.columns deck.columns) (none_before d.columns) (Apart-from (λ (c : ColumnValue). c.name) d.columns deck.column_names))

@@ -18,7 +18,7 @@ use Rattle.um_statements.specs.declared.parts.Ends.{Ends}
 use Rattle.um_statements.specs.Statements.{Name, Statement, Column, Entry}
 use Rattle.um_statements.specs.Said.{Said, RowSaid, ColumnSaid, row_place}
 use Rattle.um_statements.specs.CallRules.{rules_of, with_statement, holds_row, last_has, change_last, bare_ends}
-use Rattle.um_round.specs.NormalLines.{Number, in_sense, is_zero_number, or_one, cost_numbers, entry_number, numbers_of, row_name}
+use Rattle.um_make.specs.NormalLines.{Number, in_sense, is_zero_number, or_one, cost_numbers, entry_number, numbers_of, row_name}
 use Rattle.um_round.proofs.EachItem.{Each, Each-append, Each-from}
 use Rattle.um_round.proofs.NormalTold.{entry_told, numbers_told, column_told_as, column_told, columns_told}
 use Rattle.um_round.specs.Numerals.{written}

@@ -1,51 +1,35 @@
 -- What is known behind a deck's normal text breaks no rule of a whole deck.
-use Rattle.std.proofs.Common.{◌≡◌, ℕ, suc, ◌+◌, ◌^◌, ◌≤◌, nat_eq, nat_le, nat_lt, Bool, true, false, ◌&&◌, ◌||◌, not, cond, List, [], ◌∷◌, ◌++◌, map, filter_map, length, Option, Some, None, option_map, is_none, ℤ, pos, neg_ℤ, ◌≤ℤ◌, unsigned_abs, refl, sym, ap, ◌∙◌, subst, arith, if◌then◌else◌}
-use Rattle.std.specs.List.{list_all, list_any, enumerate_from, flat_map, cons_option}
+use Rattle.std.proofs.Common.{◌≡◌, ℕ, suc, ◌+◌, ◌^◌, ◌≤◌, nat_eq, nat_le, nat_lt, Bool, true, false, not, cond, List, [], ◌∷◌, ◌++◌, map, filter_map, length, Option, Some, None, option_map, ℤ, pos, neg_ℤ, unsigned_abs, refl, ap, ◌∙◌, subst, arith}
+use Rattle.std.specs.List.{list_all, enumerate_from, flat_map, cons_option}
 use Rattle.std.specs.Option.{ForSome}
 use Rattle.std.proofs.lemmas.Int.{ints}
-use Rattle.std.proofs.lemmas.Bool.{and_from, or_from, not-true, not_from_true, false≢true, le-leb}
+use Rattle.std.proofs.lemmas.Bool.{and_from, or_from, le-leb}
 use Rattle.std.proofs.lemmas.Bool.Decides.{nat_tests}
+use Rattle.um_num.specs.declared.decimal.Decimal.{Decimal}
 use Rattle.um_model.specs.Values.{DeckValue, ColumnValue}
-use Rattle.um_model.specs.WellFormed.{IsDeck, IsRow, IsColumn, IsEntry, IsWithin, InOrder, KindFits, AtPlace}
+use Rattle.um_model.specs.WellFormed.{IsDeck, IsRow, IsColumn, IsEntry, IsArc, IsWithin, AtPlace}
 use Rattle.um_model.specs.declared.deck.Row.{Row}
-use Rattle.um_model.specs.declared.deck.Kind.{Kind}
-use Rattle.um_model.specs.declared.deck.Kind.TheVariants.{Continuous, Integer, Semi}
 use Rattle.um_model.specs.declared.deck.Entry.{Entry as DeckEntry}
-use Rattle.um_statements.specs.Said.{Said, RowSaid, makes_semi, makes_integer}
+use Rattle.um_model.specs.declared.deck.Arc.{Arc}
+use Rattle.um_statements.specs.Said.{Said, RowSaid}
 use Rattle.um_statements.specs.Scaled.{times_ten, is_within_at}
-use Rattle.um_statements.specs.CallRules.{Rule, first_fault}
-use Rattle.um_statements.specs.Made.{coefficients, low_side, high_side, side_at, range_at, sided_rows, objective, row_scale as made_scale}
-use Rattle.um_statements.specs.DeckRules.{is_above, are_crossed, has_large_number, row_rules, objective_rules, column_rules, set_rules, deck_rules, deck_fault}
+use Rattle.um_statements.specs.CallRules.{first_fault}
+use Rattle.um_statements.specs.Made.{coefficients, arcs_in, low_side, high_side, side_at, range_at, sided_rows, objective, row_scale as made_scale}
+use Rattle.um_statements.specs.DeckRules.{is_above, has_large_number, row_rules, objective_rules, column_rules, set_rules, deck_rules, deck_fault}
 use Rattle.um_statements.proofs.Tests.{minimised_size, negated_size}
-use Rattle.um_round.specs.NormalLines.{in_sense, is_zero_number, sides_kind, first_side, ends_bounds}
+use Rattle.um_make.specs.NormalLines.{in_sense, is_zero_number, sides_kind, first_side}
 use Rattle.um_round.specs.Numerals.{written}
-use Rattle.um_round.specs.Sayable.{IsSayable, is_semi}
-use Rattle.um_round.proofs.EachItem.{Each, Each-from, Each-true, Each-both, each_at_place}
-use Rattle.um_round.proofs.NormalSaid.{normal_said, row_known, objective_known, column_known, is_integer, pairs_of}
+use Rattle.um_round.proofs.EachItem.{Each, Each-from, Each-map, each_at_place}
+use Rattle.um_round.proofs.NormalSaid.{normal_said, row_known, objective_known, HasObjectiveArcs}
 use Rattle.um_round.proofs.Numerals.{scaled_back}
-use Rattle.um_round.proofs.EndsBack.{ends-back-law}
-use Rattle.um_round.proofs.KnownNumbers.{entry_at, cost_told, cost_of}
+use Rattle.um_round.proofs.KnownNumbers.{entry_at, cost_told, cost_of, arc_numbers, objective_arcs, row_arcs}
 use Rattle.um_round.proofs.KnownScales.{values, costs, row_numbers, objective_numbers, row_scale_is, objective_scale_is, number_is}
 use Rattle.um_round.proofs.RowsBack.{rows_but_first, side_is, low_is, high_is}
-
--- ---- lists of rules
-
-both_fine : (rules more : List Rule) → first_fault rules ≡ None → first_fault more ≡ None → first_fault (rules ++ more) ≡ None
-both_fine [] more a b = b
-both_fine (r ∷ rules) more a b = by r.0 a (λ c. both_fine rules more c b)
-  where
-    by : (t : Bool) → (if t then Some r.1 else first_fault rules) ≡ None → (first_fault rules ≡ None → first_fault (rules ++ more) ≡ None) → (if t then Some r.1 else first_fault (rules ++ more)) ≡ None
-    by true a rest = cc
-    by false a rest = rest a
+use Rattle.um_round.proofs.RulesFine.{both_fine, not_above, one_above}
+use Rattle.um_round.proofs.ColumnsFine.{columns_fine}
+use Rattle.um_round.proofs.SetsFine.{sets_fine}
 
 -- ---- sizes
-
-not_above : (most : ℕ) (o : Option ℤ) → ForSome o (IsWithin most) → is_above most o ≡ false
-not_above most None h = refl
-not_above most (Some z) h = not_from_true _ (le-leb (unsigned_abs z) most (h z refl))
-
-one_above : (most : ℕ) (z : ℤ) → IsWithin most z → is_above most (Some z) ≡ false
-one_above most z h = not_from_true _ (le-leb (unsigned_abs z) most h)
 
 -- numbers that were written at a scale are as large as they are
 all_small : (most k : ℕ) (zs : List ℤ) → Each (IsWithin most) zs → list_all (is_within_at most k) (map (written k) zs) ≡ true
@@ -86,11 +70,11 @@ two_rules said p k scale fine small =
     let coarse : nat_lt 6 k ≡ false = grind (arith, nat_tests) in
     rw (scale, coarse, small) refl
 
-module _ (d : DeckValue) (deck : IsDeck d) (sayable : IsSayable d) where
+module _ (d : DeckValue) (deck : IsDeck d) (in_objective : HasObjectiveArcs d) where
   columns_each : Each (IsColumn (length d.rows)) d.columns
   columns_each = Each-from (IsColumn (length d.rows)) d.columns deck.columns
 
-  values_small : (i : ℕ) → Each (IsWithin (2 ^ 31)) (values d deck sayable i)
+  values_small : (i : ℕ) → Each (IsWithin (2 ^ 31)) (values d deck in_objective i)
   values_small i = given_each (IsWithin (2 ^ 31)) (λ (c : ColumnValue). option_map (λ (e : DeckEntry). e.value) (entry_at i c.entries)) d.columns (by d.columns columns_each)
     where
       sizes : (es : List DeckEntry) → Each (IsEntry (length d.rows)) es → Each (λ (e : DeckEntry). IsWithin (2 ^ 31) e.value) es
@@ -101,21 +85,25 @@ module _ (d : DeckValue) (deck : IsDeck d) (sayable : IsSayable d) where
       by [] h = tt
       by (c ∷ cs) h = (value_small (2 ^ 31) i c.entries (sizes c.entries (Each-from (IsEntry (length d.rows)) c.entries h.0.entries)), by cs h.1)
 
-  costs_small : Each (IsWithin (2 ^ 31)) (costs d deck sayable)
+  costs_small : Each (IsWithin (2 ^ 31)) (costs d deck in_objective)
   costs_small = given_each (IsWithin (2 ^ 31)) (λ (c : ColumnValue). cost_told (is_zero_number (cost_of d c)) (cost_of d c) c.entries) d.columns (by d.columns columns_each)
     where
       by : (cs : List ColumnValue) → Each (IsColumn (length d.rows)) cs → Each (λ (c : ColumnValue). ForSome (cost_told (is_zero_number (cost_of d c)) (cost_of d c) c.entries) (IsWithin (2 ^ 31))) cs
       by [] h = tt
       by (c ∷ cs) h = (cost_small (2 ^ 31) (is_zero_number (cost_of d c)) (cost_of d c) c.entries (minimised_size d.maximise (2 ^ 31) c.cost h.0.cost), by cs h.1)
 
+  arcs_small : Each (IsWithin (2 ^ 24)) (arc_numbers d)
+  arcs_small = Each-map (IsArc d) (IsWithin (2 ^ 24)) (λ (a : Arc). in_sense d.maximise a.value) (λ a is. minimised_size d.maximise (2 ^ 24) a.value is.size) d.arcs (Each-from (IsArc d) d.arcs deck.arcs)
+
   row_fine : (i : ℕ) (r : Row) → AtPlace d.rows i r → first_fault (row_rules (normal_said d) (suc i, row_known r)) ≡ None
   row_fine i r at =
       let is = each_at_place IsRow d.rows i r (Each-from IsRow d.rows deck.rows) at in
-      let numbers : list_all (is_within_at (2 ^ 31) r.scale) (coefficients (normal_said d) (suc i)) ≡ true = ap (list_all (is_within_at (2 ^ 31) r.scale)) (row_numbers d deck sayable i r at) ∙ all_small (2 ^ 31) r.scale (values d deck sayable i) (values_small i) in
+      let numbers : list_all (is_within_at (2 ^ 31) r.scale) (coefficients (normal_said d) (suc i)) ≡ true = ap (list_all (is_within_at (2 ^ 31) r.scale)) (row_numbers d deck in_objective i r at) ∙ all_small (2 ^ 31) r.scale (values d deck in_objective i) (values_small i) in
+      let arcs : not (list_all (is_within_at (2 ^ 24) r.scale) (arcs_in (normal_said d) (suc i))) ≡ false = ap (λ (vs : List Decimal). not (list_all (is_within_at (2 ^ 24) r.scale) vs)) (row_arcs d i) in
       let side : is_above (2 ^ 53) (Some (side_at (row_known r) r.scale)) ≡ false = ap (λ z. is_above (2 ^ 53) (Some z)) (side_is r) ∙ one_above (2 ^ 53) (first_side r.low r.high) (first_small r.low r.high is.low is.high) in
       let low : is_above (2 ^ 53) (low_side (sides_kind r.low r.high) (side_at (row_known r) r.scale) (range_at (row_known r) r.scale)) ≡ false = ap (is_above (2 ^ 53)) (low_is r) ∙ not_above (2 ^ 53) r.low is.low in
       let high : is_above (2 ^ 53) (high_side (sides_kind r.low r.high) (side_at (row_known r) r.scale) (range_at (row_known r) r.scale)) ≡ false = ap (is_above (2 ^ 53)) (high_is r is) ∙ not_above (2 ^ 53) r.high is.high in
-      two_rules (normal_said d) (suc i, row_known r) r.scale (row_scale_is d deck sayable i r at) is.scale (or_from _ _ (or_from _ _ (or_from _ _ (or_from _ _ (ap not numbers) refl) side) low) high)
+      two_rules (normal_said d) (suc i, row_known r) r.scale (row_scale_is d deck in_objective i r at) is.scale (or_from _ _ (or_from _ _ (or_from _ _ (or_from _ _ (ap not numbers) arcs) side) low) high)
 
   rows_from : (n : ℕ) (rows : List Row) → ((i : ℕ) (r : Row) → AtPlace rows i r → (m : ℕ) → m ≡ n + i → first_fault (row_rules (normal_said d) (m, row_known r)) ≡ None) → first_fault (flat_map (row_rules (normal_said d)) (enumerate_from n (map row_known rows))) ≡ None
   rows_from n [] h = refl
@@ -129,61 +117,17 @@ module _ (d : DeckValue) (deck : IsDeck d) (sayable : IsSayable d) where
   objective_fine : first_fault (row_rules (normal_said d) (0, objective_known d)) ≡ None
   objective_fine =
       let z = neg_ℤ (in_sense d.maximise d.constant) in
-      let numbers : list_all (is_within_at (2 ^ 31) d.scale) (coefficients (normal_said d) 0) ≡ true = ap (list_all (is_within_at (2 ^ 31) d.scale)) (objective_numbers d deck sayable) ∙ all_small (2 ^ 31) d.scale (costs d deck sayable) costs_small in
+      let numbers : list_all (is_within_at (2 ^ 31) d.scale) (coefficients (normal_said d) 0) ≡ true = ap (list_all (is_within_at (2 ^ 31) d.scale)) (objective_numbers d deck in_objective) ∙ all_small (2 ^ 31) d.scale (costs d deck in_objective) costs_small in
+      let arcs : list_all (is_within_at (2 ^ 24) d.scale) (arcs_in (normal_said d) 0) ≡ true = ap (list_all (is_within_at (2 ^ 24) d.scale)) (objective_arcs d) ∙ all_small (2 ^ 24) d.scale (arc_numbers d) arcs_small in
       let side : is_above (2 ^ 53) (Some (side_at (objective_known d) d.scale)) ≡ false = ap (λ v. is_above (2 ^ 53) (Some (times_ten v d.scale))) (number_is d.scale z) ∙ ap (λ x. is_above (2 ^ 53) (Some x)) (scaled_back d.scale z) ∙ one_above (2 ^ 53) z (negated_size (2 ^ 53) (in_sense d.maximise d.constant) (minimised_size d.maximise (2 ^ 53) d.constant deck.constant)) in
-      two_rules (normal_said d) (0, objective_known d) d.scale (objective_scale_is d deck sayable) deck.scale (or_from _ _ (or_from _ _ (or_from _ _ (or_from _ _ (ap not numbers) refl) side) refl) refl)
+      two_rules (normal_said d) (0, objective_known d) d.scale (objective_scale_is d deck in_objective) deck.scale (or_from _ _ (or_from _ _ (or_from _ _ (or_from _ _ (ap not numbers) (ap not arcs)) side) refl) refl)
 
--- ---- columns
+-- ---- all
 
-no_semi : (name : List ℕ) (low high : Option ℤ) → list_any (λ b. makes_semi b.0) (pairs_of (ends_bounds name low high)) ≡ false
-no_semi name None None = refl
-no_semi name None (Some high) = refl
-no_semi name (Some low) None = by (is_zero_number low) refl
-  where
-    by : (t : Bool) → is_zero_number low ≡ t → list_any (λ b. makes_semi b.0) (pairs_of (ends_bounds name (Some low) None)) ≡ false
-    by true e = rw e refl
-    by false e = rw e refl
-no_semi name (Some low) (Some high) = refl
-
-no_integer : (name : List ℕ) (low high : Option ℤ) → list_any (λ b. makes_integer b.0) (pairs_of (ends_bounds name low high)) ≡ false
-no_integer name None None = refl
-no_integer name None (Some high) = refl
-no_integer name (Some low) None = by (is_zero_number low) refl
-  where
-    by : (t : Bool) → is_zero_number low ≡ t → list_any (λ b. makes_integer b.0) (pairs_of (ends_bounds name (Some low) None)) ≡ false
-    by true e = rw e refl
-    by false e = rw e refl
-no_integer name (Some low) (Some high) = refl
-
-uncrossed : (low high : Option ℤ) → InOrder low high → are_crossed low high ≡ false
-uncrossed None high h = refl
-uncrossed (Some low) None h = refl
-uncrossed (Some low) (Some high) h = let order : low ≤ℤ high = h low refl high refl in grind (arith, ints, nat_tests)
-
--- a column of no set and without arc needs its ends where it is integer
-finite_ends : (kind : Kind) (low high : Option ℤ) → is_semi kind ≡ false → KindFits kind low high → (((is_integer kind || false) || false || false || false) && (is_none low || is_none high)) ≡ false
-finite_ends Continuous low high sayable fits = refl
-finite_ends Integer (Some low) (Some high) sayable fits = refl
-finite_ends Integer None high sayable fits = absurd (false≢true fits.low)
-finite_ends Integer (Some low) None sayable fits = absurd (false≢true fits.high)
-finite_ends (Semi threshold) low high sayable fits = absurd (false≢true (sym sayable))
-
-module _ (d : DeckValue) where
-  column_fine : (j : ℕ) (c : ColumnValue) → IsColumn (length d.rows) c → is_semi c.kind ≡ false → first_fault (column_rules (normal_said d) (j, column_known d c)) ≡ None
-  column_fine j c is kinds =
-      let ends = ends-back-law c.kind c.name c.low c.high kinds is.kind is.low is.high in
-      rw (ends.low, ends.high, no_semi c.name c.low c.high, no_integer c.name c.low c.high, uncrossed c.low c.high is.order, finite_ends c.kind c.low c.high kinds is.kind) refl
-
-  columns_fine : (n : ℕ) (cs : List ColumnValue) → Each (λ (c : ColumnValue). IsColumn (length d.rows) c × (not (is_semi c.kind) ≡ true)) cs → first_fault (flat_map (column_rules (normal_said d)) (enumerate_from n (map (column_known d) cs))) ≡ None
-  columns_fine n [] h = refl
-  columns_fine n (c ∷ cs) h =
-      both_fine (column_rules (normal_said d) (n, column_known d c)) (flat_map (column_rules (normal_said d)) (enumerate_from (n + 1) (map (column_known d) cs))) (column_fine n c h.0.0 (not-true (is_semi c.kind) h.0.1)) (columns_fine (n + 1) cs h.1)
-
-pub deck-fine-law : (d : DeckValue) → IsDeck d → IsSayable d → deck_fault (normal_said d) ≡ None
+pub deck-fine-law : (d : DeckValue) → IsDeck d → HasObjectiveArcs d → deck_fault (normal_said d) ≡ None
 unfolding deck_rules
-deck-fine-law d deck sayable =
+deck-fine-law d deck in_objective =
     let said = normal_said d in
-    let each = Each-both (IsColumn (length d.rows)) (λ (c : ColumnValue). not (is_semi c.kind) ≡ true) d.columns (Each-from (IsColumn (length d.rows)) d.columns deck.columns) (Each-true (λ (c : ColumnValue). not (is_semi c.kind)) d.columns sayable.columns) in
-    both_fine (objective_rules said (objective said)) (flat_map (row_rules said) (sided_rows said) ++ (flat_map (column_rules said) (enumerate_from 0 said.columns) ++ flat_map (set_rules said) said.sets)) (objective_fine d deck sayable)
-    (both_fine (flat_map (row_rules said) (sided_rows said)) (flat_map (column_rules said) (enumerate_from 0 said.columns) ++ flat_map (set_rules said) said.sets) (rows_fine d deck sayable)
-    (both_fine (flat_map (column_rules said) (enumerate_from 0 said.columns)) (flat_map (set_rules said) said.sets) (columns_fine d 0 d.columns each) refl))
+    both_fine (objective_rules said (objective said)) (flat_map (row_rules said) (sided_rows said) ++ (flat_map (column_rules said) (enumerate_from 0 said.columns) ++ flat_map (set_rules said) said.sets)) (objective_fine d deck in_objective)
+    (both_fine (flat_map (row_rules said) (sided_rows said)) (flat_map (column_rules said) (enumerate_from 0 said.columns) ++ flat_map (set_rules said) said.sets) (rows_fine d deck in_objective)
+    (both_fine (flat_map (column_rules said) (enumerate_from 0 said.columns)) (flat_map (set_rules said) said.sets) (columns_fine d deck in_objective) (sets_fine d deck)))

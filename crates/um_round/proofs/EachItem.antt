@@ -1,8 +1,8 @@
 -- What holds of each item of a list.
-use Rattle.std.proofs.Common.{◌≡◌, ℕ, zero, suc, Bool, true, false, List, [], ◌∷◌, ◌++◌, map, All, if◌then◌else◌, subst}
-use Rattle.std.specs.List.{flat_map, list_all}
+use Rattle.std.proofs.Common.{◌≡◌, ℕ, zero, suc, Bool, true, false, List, [], ◌∷◌, ◌++◌, map, All, ◌||◌, if◌then◌else◌, refl, subst}
+use Rattle.std.specs.List.{flat_map, list_all, list_any}
 use Rattle.std.specs.Bool.{⊤}
-use Rattle.std.proofs.lemmas.Bool.{and_parts}
+use Rattle.std.proofs.lemmas.Bool.{and_parts, false≢true}
 use Rattle.um_model.specs.WellFormed.{AtPlace}
 use Rattle.std.proofs.lemmas.List.Elements.{All-nil, All-cons, All-head, All-tail}
 
@@ -27,6 +27,10 @@ pub Each-both : {X : Type 0} (P Q : X → Type 0) (xs : List X) → Each P xs �
 Each-both P Q [] h k = tt
 Each-both P Q (x ∷ xs) h k = ((h.0, k.0), Each-both P Q xs h.1 k.1)
 
+pub Each-so : {X : Type 0} (P Q : X → Type 0) → ((x : X) → P x → Q x) → (xs : List X) → Each P xs → Each Q xs
+Each-so P Q is [] h = tt
+Each-so P Q is (x ∷ xs) h = (is x h.0, Each-so P Q is xs h.1)
+
 pub Each-map : {X Y : Type 0} (P : X → Type 0) (Q : Y → Type 0) (f : X → Y) → ((x : X) → P x → Q (f x)) → (xs : List X) → Each P xs → Each Q (map f xs)
 Each-map P Q f is [] h = tt
 Each-map P Q f is (x ∷ xs) h = (is x h.0, Each-map P Q f is xs h.1)
@@ -47,3 +51,12 @@ pub each_at_place : {X : Type 0} (P : X → Type 0) (xs : List X) (i : ℕ) (x :
 each_at_place P [] i x h at = cc
 each_at_place P (y ∷ xs) zero x h at = let same : y ≡ x = cc in subst P same h.0
 each_at_place P (y ∷ xs) (suc i) x h at = each_at_place P xs i x h.1 at
+
+-- what follows from each item that passes a test follows where one passes
+pub some_passes : {X : Type 0} (P : Type 0) (test : X → Bool) (xs : List X) → Each (λ x. test x ≡ true → P) xs → list_any test xs ≡ true → P
+some_passes P test [] h t = absurd (false≢true t)
+some_passes P test (x ∷ xs) h t = by (test x) refl t (some_passes P test xs h.1)
+  where
+    by : (b : Bool) → test x ≡ b → (b || list_any test xs) ≡ true → (list_any test xs ≡ true → P) → P
+    by true passes t more = h.0 passes
+    by false fails t more = more t

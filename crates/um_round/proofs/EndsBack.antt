@@ -1,6 +1,7 @@
 -- The ends and the kind of a column are those of its bounds.
-use Rattle.std.proofs.Common.{◌≡◌, ◌≤◌, ◌^◌, Bool, true, false, int_le, [], ◌∷◌, Option, Some, None, ℤ, pos, negsuc, neg_ℤ, unsigned_abs, refl, sym, ap, arith}
+use Rattle.std.proofs.Common.{◌≡◌, ◌≤◌, ◌^◌, Bool, true, false, int_le, [], ◌∷◌, Option, Some, None, ℤ, pos, negsuc, neg_ℤ, ◌≤ℤ◌, unsigned_abs, refl, sym, ap, arith}
 use Rattle.std.specs.Option.{ForSome}
+use Rattle.std.proofs.lemmas.Int.{ints}
 use Rattle.std.proofs.lemmas.Bool.{lt-leb, false≢true}
 use Rattle.um_model.specs.WellFormed.{KindFits, IsWithin}
 use Rattle.um_model.specs.declared.deck.Kind.{Kind}
@@ -9,10 +10,9 @@ use Rattle.um_statements.specs.declared.parts.BoundKind.TheVariants.{Up, Lo}
 use Rattle.um_statements.specs.declared.parts.End.TheVariants.{Finite}
 use Rattle.um_statements.specs.Statements.{Name}
 use Rattle.um_statements.specs.Said.{ends_of, end_of}
-use Rattle.um_statements.specs.Made.{kind_of}
-use Rattle.um_round.specs.NormalLines.{is_zero_number, ends_bounds}
+use Rattle.um_statements.specs.Made.{kind_of, threshold}
+use Rattle.um_make.specs.NormalLines.{is_zero_number, ends_bounds, kind_bounds}
 use Rattle.um_round.specs.Numerals.{written}
-use Rattle.um_round.specs.Sayable.{is_semi}
 use Rattle.um_round.proofs.NormalSaid.{is_integer, IsEndsBack, pairs_of}
 use Rattle.um_round.proofs.Numerals.{scaled_back}
 use Rattle.um_round.proofs.KnownNumbers.{zero_is}
@@ -49,9 +49,20 @@ continuous_back name (Some low) None h k = by (is_zero_number low) refl
     by false e = rw e (record { low = rw (lo_end low (h low refl)) refl; high = refl; kind = refl })
 continuous_back name (Some low) (Some high) h k = two_ends Continuous name low high (λ e. cc) (λ e. refl) (h low refl) (k high refl)
 
-pub ends-back-law : (kind : Kind) (name : Name) (low high : Option ℤ) → is_semi kind ≡ false → KindFits kind low high → ForSome low (IsWithin (10 ^ 10)) → ForSome high (IsWithin (10 ^ 10)) → IsEndsBack kind low high (ends_of (is_integer kind) (pairs_of (ends_bounds name low high)))
-ends-back-law Continuous name low high semi fits h k = continuous_back name low high h k
-ends-back-law Integer name (Some low) (Some high) semi fits h k = two_ends Integer name low high (λ e. refl) (λ e. cc) (h low refl) (k high refl)
-ends-back-law Integer name None high semi fits h k = absurd (false≢true fits.low)
-ends-back-law Integer name (Some low) None semi fits h k = absurd (false≢true fits.high)
-ends-back-law (Semi threshold) name low high semi fits h k = absurd (false≢true (sym semi))
+-- a threshold is as small as the end above it
+threshold_size : (threshold high : ℤ) → pos 0 ≤ℤ threshold → threshold ≤ℤ high → unsigned_abs high ≤ 10 ^ 10 → unsigned_abs threshold ≤ 10 ^ 10
+threshold_size threshold high up below most = omega (arith, ints, up, below, most)
+
+pub ends-back-law : (kind : Kind) (name : Name) (low high : Option ℤ) → KindFits kind low high → ForSome low (IsWithin (10 ^ 10)) → ForSome high (IsWithin (10 ^ 10)) → IsEndsBack kind low high (ends_of (is_integer kind) (pairs_of (kind_bounds name kind low high)))
+ends-back-law Continuous name low high fits h k = continuous_back name low high h k
+ends-back-law Integer name (Some low) (Some high) fits h k = two_ends Integer name low high (λ e. refl) (λ e. cc) (h low refl) (k high refl)
+ends-back-law Integer name None high fits h k = absurd (false≢true fits.low)
+ends-back-law Integer name (Some low) None fits h k = absurd (false≢true fits.high)
+ends-back-law (Semi least) name low None fits h k = absurd (false≢true fits.1)
+ends-back-law (Semi least) name low (Some high) fits h k =
+    record { low = sym fits.0; high = rw (scaled_back 3 high) refl; kind = rw (lo_end least (threshold_size least high fits.2 (fits.3 high refl) (k high refl))) refl }
+
+-- the threshold of a semicontinuous column is that of its bounds
+pub threshold-back : (least : ℤ) (name : Name) (low high : Option ℤ) → KindFits (Semi least) low high → ForSome high (IsWithin (10 ^ 10)) → threshold (ends_of false (pairs_of (kind_bounds name (Semi least) low high))) ≡ Some least
+threshold-back least name low None fits k = absurd (false≢true fits.1)
+threshold-back least name low (Some high) fits k = rw (lo_end least (threshold_size least high fits.2 (fits.3 high refl) (k high refl))) refl

@@ -1,5 +1,5 @@
 -- The entries that are known of a column are those of the deck.
-use Rattle.std.proofs.Common.{◌≡◌, ◌≢◌, ℕ, zero, suc, ◌+◌, ◌*◌, ◌^◌, ◌<◌, ◌≤◌, nat_eq, Bool, true, false, cond, List, [], ◌∷◌, map, filter_map, length, Option, Some, None, option_map, ℤ, pos, negsuc, ◌+ℤ◌, unsigned_abs, AllPairs, refl, sym, ap, ◌∙◌, subst, arith, if◌then◌else◌}
+use Rattle.std.proofs.Common.{◌≡◌, ◌≢◌, ℕ, zero, suc, ◌+◌, ◌<◌, ◌≤◌, nat_eq, Bool, true, false, cond, List, [], ◌∷◌, map, filter_map, length, Option, Some, None, option_map, pos, AllPairs, refl, ap, ◌∙◌, subst, arith, if◌then◌else◌}
 use Rattle.std.specs.Bool.{⊤}
 use Rattle.std.specs.List.{enumerate_from, range_with_len, cons_option}
 use Rattle.std.specs.Option.{option_and_then}
@@ -11,15 +11,14 @@ use Rattle.um_model.specs.declared.deck.Row.{Row}
 use Rattle.um_model.specs.declared.deck.Entry.{Entry as DeckEntry}
 use Rattle.um_statements.specs.Said.{RowSaid}
 use Rattle.um_statements.specs.CallRules.{is_zero as is_nothing}
-use Rattle.um_statements.specs.Scaled.{times_ten, at_least_zero}
+use Rattle.um_statements.specs.Scaled.{times_ten}
 use Rattle.um_statements.specs.Made.{entry_in, entry_made, sided_rows, row_scale as made_scale}
-use Rattle.um_statements.proofs.Tests.{scaled_size, other_number}
+use Rattle.um_statements.proofs.Tests.{other_number}
 use Rattle.um_round.specs.Numerals.{written}
-use Rattle.um_round.specs.Sayable.{IsSayable}
 use Rattle.um_round.proofs.EachItem.{Each, Each-from}
-use Rattle.um_round.proofs.NormalSaid.{normal_said, row_known, column_known}
+use Rattle.um_round.proofs.NormalSaid.{normal_said, row_known, column_known, HasObjectiveArcs}
 use Rattle.um_round.proofs.Numerals.{scaled_back}
-use Rattle.um_round.proofs.KnownNumbers.{entry_at, known_value, scale_at}
+use Rattle.um_round.proofs.KnownNumbers.{not_nothing, entry_at, known_value, scale_at}
 use Rattle.um_round.proofs.KnownScales.{apart, row_scale_is}
 use Rattle.um_round.proofs.RowsBack.{rows_but_first}
 
@@ -85,22 +84,6 @@ picked n (suc len) (e ∷ es) r h = by (nat_eq e.row n) refl
 
 -- ---- an entry
 
-not_nothing : (k : ℕ) (z : ℤ) → z ≢ pos 0 → is_nothing (written k z) ≡ false
-not_nothing k z some = by (is_nothing (written k z)) refl
-  where
-    nil : (z : ℤ) → unsigned_abs z ≡ 0 → z ≡ pos 0
-    nil (pos n) e = ap pos e
-    nil (negsuc n) e = absurd (omega (arith, e))
-
-    by : (t : Bool) → is_nothing (written k z) ≡ t → t ≡ false
-    by false e = refl
-    by true e =
-        let v = written k z in
-        let none : unsigned_abs v.digits ≡ 0 = grind (arith, nat_tests) in
-        let product : unsigned_abs z ≡ unsigned_abs v.digits * 10 ^ at_least_zero (v.power +ℤ pos k) = sym (ap unsigned_abs (scaled_back k z)) ∙ scaled_size v k in
-        let zero_times : unsigned_abs v.digits * 10 ^ at_least_zero (v.power +ℤ pos k) ≡ 0 = ap (λ n. n * 10 ^ at_least_zero (v.power +ℤ pos k)) none ∙ omega arith in
-        absurd (some (nil z (product ∙ zero_times)))
-
 abbrev kept : ℕ → ℕ → Decimal → Option DeckEntry
 kept m k v = if is_nothing v then None else Some (record { row = m; value = times_ten v k })
 
@@ -117,7 +100,7 @@ found_back m k (e ∷ es) h = by (nat_eq e.row m) refl (found_back m k es h.1)
         rw (not_nothing k e.value h.0) (λ i. Some (record { row = is i; value = back i }))
     by false t rest = rest
 
-module _ (d : DeckValue) (deck : IsDeck d) (sayable : IsSayable d) (c : ColumnValue) (is : IsColumn (length d.rows) c) where
+module _ (d : DeckValue) (deck : IsDeck d) (in_objective : HasObjectiveArcs d) (c : ColumnValue) (is : IsColumn (length d.rows) c) where
   entries_each : Each (IsEntry (length d.rows)) c.entries
   entries_each = Each-from (IsEntry (length d.rows)) c.entries is.entries
 
@@ -132,9 +115,9 @@ module _ (d : DeckValue) (deck : IsDeck d) (sayable : IsSayable d) (c : ColumnVa
   made_entry : (m : ℕ) (r : Row) → AtPlace d.rows m r → entry_made (normal_said d) (column_known d c) (m, (suc m, row_known r)) ≡ entry_at m c.entries
   made_entry m r at =
       let value : entry_in (suc m) (column_known d c) ≡ option_map (λ (e : DeckEntry). written r.scale e.value) (entry_at m c.entries) =
-      known_value d (apart d deck sayable) c entries_each m ∙ ap (λ k. option_map (λ (e : DeckEntry). written k e.value) (entry_at m c.entries)) (scale_at d.rows m r at) in
+      known_value d (apart d deck in_objective) c entries_each m ∙ ap (λ k. option_map (λ (e : DeckEntry). written k e.value) (entry_at m c.entries)) (scale_at d.rows m r at) in
       ap (λ o. option_and_then (kept m (made_scale (normal_said d) (suc m) (row_known r))) o) value
-      ∙ ap (λ k. option_and_then (kept m k) (option_map (λ (e : DeckEntry). written r.scale e.value) (entry_at m c.entries))) (row_scale_is d deck sayable m r at)
+      ∙ ap (λ k. option_and_then (kept m k) (option_map (λ (e : DeckEntry). written r.scale e.value) (entry_at m c.entries))) (row_scale_is d deck in_objective m r at)
       ∙ found_back m r.scale c.entries (nonzero c.entries entries_each)
 
   entries_from : (n : ℕ) (rows : List Row) → ((i : ℕ) (r : Row) → AtPlace rows i r → (m : ℕ) → m ≡ n + i → entry_made (normal_said d) (column_known d c) (m, (m + 1, row_known r)) ≡ entry_at m c.entries)

@@ -9,29 +9,28 @@ use Rattle.um_statements.specs.Statements.{Name}
 use Rattle.um_mps.specs.declared.section.Section.{Section}
 use Rattle.um_mps.specs.declared.section.Section.TheVariants as section
 use Rattle.um_mps.specs.Sections.{section_called, rank, is_section}
-use Rattle.um_mps.specs.DeckLines.{Words, Line, Heading, section_now, data_now, heading_of, data_words, is_heading}
+use Rattle.um_setsec.specs.Words.{Words}
+use Rattle.um_mps.specs.DeckLines.{Line, Heading, section_now, data_now, heading_of, data_words, is_heading}
 use Rattle.um_mps.specs.LinesSay.{line_says}
 use Rattle.um_mps.specs.Places.{place_of, is_open}
-use Rattle.um_round.specs.NormalLines.{rows_data}
+use Rattle.um_make.specs.NormalLines.{rows_data}
 use Rattle.um_round.proofs.LinesTold.{IsBehind, place_is, last_push, after_this, or_more}
 
 pub columns_heading : (d : DeckValue) (before : List Line) → IsBehind before section.Rows (rows_data d) false → line_says (place_of before) (Heading (codes "COLUMNS" ∷ [])) ≡ Ok []
 unfolding line_says
 columns_heading d before b = rw (place_is before section.Rows (rows_data d) false b) refl
 
--- a section behind COLUMNS that isn't one of the first four, and none that is not read yet
+-- a section behind COLUMNS that isn't one of the first four
 pub record IsLater (now : Section) : Type 0 where
   pub name : is_section section.Name (Some now) ≡ false
   pub objsense : is_section section.Objsense (Some now) ≡ false
   pub columns : is_section section.Columns (Some now) ≡ false
-  pub sos : is_section section.Sos (Some now) ≡ false
-  pub arcs : is_section section.Arcs (Some now) ≡ false
 
 pub later_heading : (before : List Line) (s now : Section) (words : List Words) (title : Name) → IsBehind before s words true → section_called title ≡ Some now
     → nat_lt (rank s) (rank now) ≡ true → IsLater now → (is_section section.Columns (Some s) && is_open words) ≡ false → line_says (place_of before) (Heading (title ∷ [])) ≡ Ok []
 unfolding line_says
 later_heading before s now words title b called order later closed =
-    rw (place_is before s words true b, called, order, or_right (nat_le (rank now) 2) true refl, or_right (nat_le (rank now) 3) true refl, later.objsense, later.columns, closed, later.sos, later.arcs, later.name) refl
+    rw (place_is before s words true b, called, order, or_right (nat_le (rank now) 2) true refl, or_right (nat_le (rank now) 3) true refl, later.objsense, later.columns, closed, later.name) refl
 
 pub behind_heading : (before : List Line) (s now : Section) (words : List Words) (columns : Bool) (title : Name) → IsBehind before s words columns → section_called title ≡ Some now
     → IsBehind (before ++ Heading (title ∷ []) ∷ []) now [] (columns || (is_section section.Columns (Some now) || false))

@@ -1,19 +1,24 @@
 -- What is known of a column in each row: the numbers that its lines told.
-use Rattle.std.proofs.Common.{◌≡◌, ℕ, zero, suc, nat_eq, Bool, true, false, cond, List, [], ◌∷◌, ◌++◌, map, filter_map, find, length, Option, Some, None, option_map, ℤ, pos, negsuc, neg_ℤ, refl, sym, ap, ◌∙◌, arith, if◌then◌else◌}
+use Rattle.std.proofs.Common.{◌≡◌, ◌≢◌, ℕ, zero, suc, ◌*◌, ◌^◌, nat_eq, Bool, true, false, cond, List, [], ◌∷◌, ◌++◌, map, filter_map, find, length, Option, Some, None, option_map, ℤ, pos, negsuc, neg_ℤ, ◌+ℤ◌, unsigned_abs, refl, sym, ap, ◌∙◌, arith, if◌then◌else◌}
 use Rattle.std.specs.List.{flat_map, cons_option}
 use Rattle.std.proofs.lemmas.Bool.Decides.{nat_tests}
 use Rattle.um_num.specs.declared.decimal.Decimal.{Decimal}
 use Rattle.um_model.specs.Values.{DeckValue, ColumnValue}
 use Rattle.um_model.specs.WellFormed.{IsEntry, AtPlace}
 use Rattle.um_model.specs.declared.deck.Row.{Row}
+use Rattle.um_model.specs.declared.deck.Arc.{Arc}
 use Rattle.um_model.specs.declared.deck.Entry.{Entry as DeckEntry}
 use Rattle.um_statements.specs.declared.parts.EntryPart.{EntryPart}
-use Rattle.um_statements.specs.Made.{entry_in, nothing}
-use Rattle.um_round.specs.NormalLines.{in_sense, is_zero_number, or_one, entry_number, scale_of_row}
+use Rattle.um_statements.specs.declared.parts.ArcPart.{ArcPart}
+use Rattle.um_statements.specs.CallRules.{is_zero as is_nothing}
+use Rattle.um_statements.specs.Scaled.{at_least_zero}
+use Rattle.um_statements.specs.Made.{entry_in, arcs_in, nothing}
+use Rattle.um_statements.proofs.Tests.{scaled_size}
+use Rattle.um_make.specs.NormalLines.{in_sense, is_zero_number, or_one, entry_number, scale_of_row}
 use Rattle.um_round.specs.Numerals.{written}
 use Rattle.um_round.proofs.EachItem.{Each}
-use Rattle.um_round.proofs.NormalSaid.{bare_rows, part_of, column_known}
-use Rattle.um_round.proofs.Numerals.{nothing_normal}
+use Rattle.um_round.proofs.NormalSaid.{bare_rows, part_of, column_known, arc_known, normal_said}
+use Rattle.um_round.proofs.Numerals.{nothing_normal, scaled_back}
 use Rattle.um_round.proofs.ColumnsTold.{Apart}
 use Rattle.um_round.proofs.ColumnsRun.{objective_at, row_at}
 
@@ -41,6 +46,23 @@ written_zero k = nothing_normal false (neg_ℤ (pos k))
 pub zero_is : (z : ℤ) → is_zero_number z ≡ true → z ≡ pos 0
 zero_is (pos n) t = let none : n ≡ 0 = grind (arith, nat_tests) in ap pos none
 zero_is (negsuc n) t = grind (arith, nat_tests)
+
+-- a number that isn't 0 is not written as 0
+pub not_nothing : (k : ℕ) (z : ℤ) → z ≢ pos 0 → is_nothing (written k z) ≡ false
+not_nothing k z some = by (is_nothing (written k z)) refl
+  where
+    nil : (z : ℤ) → unsigned_abs z ≡ 0 → z ≡ pos 0
+    nil (pos n) e = ap pos e
+    nil (negsuc n) e = absurd (omega (arith, e))
+
+    by : (t : Bool) → is_nothing (written k z) ≡ t → t ≡ false
+    by false e = refl
+    by true e =
+        let v = written k z in
+        let none : unsigned_abs v.digits ≡ 0 = grind (arith, nat_tests) in
+        let product : unsigned_abs z ≡ unsigned_abs v.digits * 10 ^ at_least_zero (v.power +ℤ pos k) = sym (ap unsigned_abs (scaled_back k z)) ∙ scaled_size v k in
+        let zero_times : unsigned_abs v.digits * 10 ^ at_least_zero (v.power +ℤ pos k) ≡ 0 = ap (λ n. n * 10 ^ at_least_zero (v.power +ℤ pos k)) none ∙ omega arith in
+        absurd (some (nil z (product ∙ zero_times)))
 
 -- ---- one column
 
@@ -139,3 +161,25 @@ pub scale_at : (rows : List Row) (i : ℕ) (r : Row) → AtPlace rows i r → sc
 scale_at [] i r at = cc
 scale_at (x ∷ rows) zero r at = let same : x ≡ r = cc in ap (λ (y : Row). y.scale) same
 scale_at (x ∷ rows) (suc i) r at = scale_at rows i r at
+
+-- ---- arcs
+
+-- the numbers of the arcs, in the deck's sense
+abbrev pub arc_numbers : DeckValue → List ℤ
+arc_numbers d = map (λ (a : Arc). in_sense d.maximise a.value) d.arcs
+
+-- all arcs are in the objective
+pub objective_arcs : (d : DeckValue) → arcs_in (normal_said d) 0 ≡ map (written d.scale) (arc_numbers d)
+objective_arcs d = by d.arcs
+  where
+    by : (arcs : List Arc) → filter_map (λ (a : ArcPart). if nat_eq a.row 0 then Some a.value else None) (map (arc_known d) arcs) ≡ map (written d.scale) (map (λ (a : Arc). in_sense d.maximise a.value) arcs)
+    by [] = refl
+    by (a ∷ arcs) = ap (λ (vs : List Decimal). written d.scale (in_sense d.maximise a.value) ∷ vs) (by arcs)
+
+-- and none is in a row
+pub row_arcs : (d : DeckValue) (i : ℕ) → arcs_in (normal_said d) (suc i) ≡ []
+row_arcs d i = by d.arcs
+  where
+    by : (arcs : List Arc) → filter_map (λ (a : ArcPart). if nat_eq a.row (suc i) then Some a.value else None) (map (arc_known d) arcs) ≡ []
+    by [] = refl
+    by (a ∷ arcs) = rw (not_later i) (by arcs)

@@ -1,5 +1,5 @@
 -- The scales of rows and objective are those at which their numbers were written.
-use Rattle.std.proofs.Common.{◌≡◌, ℕ, suc, ◌<◌, ◌≤◌, nat_eq, Bool, true, false, cond, List, [], ◌∷◌, ◌++◌, map, filter_map, slice_index_or, length, Option, Some, None, option_map, unwrap_or, ℤ, pos, negsuc, neg_ℤ, ◌-ℤ◌, All, AllPairs, refl, sym, ap, ◌∙◌, subst, arith, if◌then◌else◌}
+use Rattle.std.proofs.Common.{◌≡◌, ℕ, suc, ◌<◌, ◌≤◌, nat_eq, Bool, true, false, cond, List, [], ◌∷◌, ◌++◌, map, filter_map, slice_index_or, get_or, length, Option, Some, None, option_map, unwrap_or, ℤ, pos, negsuc, neg_ℤ, ◌-ℤ◌, All, AllPairs, refl, sym, ap, ◌∙◌, subst, arith, if◌then◌else◌}
 use Rattle.std.specs.Option.{ForSome}
 use Rattle.std.proofs.lemmas.Int.{ints}
 use Rattle.std.proofs.lemmas.Bool.Decides.{nat_tests}
@@ -12,17 +12,16 @@ use Rattle.um_model.specs.declared.deck.Arc.{Arc}
 use Rattle.um_model.specs.declared.deck.Entry.{Entry as DeckEntry}
 use Rattle.um_statements.specs.CallRules.{is_n}
 use Rattle.um_statements.specs.Scaled.{least_scale}
-use Rattle.um_statements.specs.Made.{entry_in, nothing, coefficients, numbers_beside, row_scale as made_scale}
+use Rattle.um_statements.specs.Made.{entry_in, nothing, coefficients, arcs_in, numbers_beside, row_scale as made_scale}
 use Rattle.um_statements.proofs.LeastScales.{minimised_multiple, negated_multiple}
-use Rattle.um_statements.proofs.ListFacts.{given_all}
-use Rattle.um_round.specs.NormalLines.{in_sense, is_zero_number, is_same, sides_kind, first_side, width, scale_of_row}
+use Rattle.um_statements.proofs.ListFacts.{given_all, unmapped}
+use Rattle.um_make.specs.NormalLines.{in_sense, is_zero_number, is_same, sides_kind, first_side, width, scale_of_row}
 use Rattle.um_round.specs.Numerals.{written}
-use Rattle.um_round.specs.Sayable.{IsSayable}
 use Rattle.um_round.proofs.EachItem.{Each, Each-from, each_all}
-use Rattle.um_round.proofs.NormalSaid.{normal_said, told_number, row_known, objective_known, column_known}
+use Rattle.um_round.proofs.NormalSaid.{normal_said, told_number, row_known, objective_known, column_known, HasObjectiveArcs}
 use Rattle.um_round.proofs.ColumnsTold.{Apart, Apart-from}
 use Rattle.um_round.proofs.ScalesBack.{scale-law}
-use Rattle.um_round.proofs.KnownNumbers.{given_map, given_same, written_zero, zero_is, entry_at, cost_told, cost_of, known_value, known_cost, scale_at}
+use Rattle.um_round.proofs.KnownNumbers.{given_map, given_same, written_zero, zero_is, entry_at, cost_told, cost_of, known_value, known_cost, scale_at, arc_numbers, objective_arcs, row_arcs}
 
 -- ---- numbers beside
 
@@ -100,7 +99,7 @@ row_tens i (e ∷ es) rise h = by (nat_eq e.row i) refl h (row_tens i es (λ a b
 
 -- ---- the deck
 
-module _ (d : DeckValue) (deck : IsDeck d) (sayable : IsSayable d) where
+module _ (d : DeckValue) (deck : IsDeck d) (in_objective : HasObjectiveArcs d) where
   pub apart : Apart (λ n. n) (d.objective_name ∷ map (λ (r : Row). r.name) d.rows)
   apart = Apart-from (λ y. y) (d.objective_name ∷ map (λ (r : Row). r.name) d.rows) deck.row_names
 
@@ -147,8 +146,9 @@ module _ (d : DeckValue) (deck : IsDeck d) (sayable : IsSayable d) where
       given_same (entry_in 0) (column_known d) (λ (c : ColumnValue). option_map (written d.scale) (cost_told (is_zero_number (cost_of d c)) (cost_of d c) c.entries)) d.columns (costs_known d.columns within)
       ∙ given_map (written d.scale) (λ (c : ColumnValue). cost_told (is_zero_number (cost_of d c)) (cost_of d c) c.entries) d.columns
 
-  no_arcs : (P : Arc → Type 0) → All P d.arcs
-  no_arcs P = subst (All P) (sym sayable.parts.arcs) (All-nil P)
+  -- no arc is in a row
+  other_arcs : (i : ℕ) → All (λ (a : Arc). a.row ≡ Some i → IsMultipleOfTen a.value) d.arcs
+  other_arcs i = λ k x within same. let other : None ≡ Some i = sym (in_objective k x within) ∙ same in cc
 
   entries_tens : (i : ℕ) (cs : List ColumnValue) → Each (IsColumn (length d.rows)) cs → All IsMultipleOfTen (filter_map (λ (c : ColumnValue). option_map (λ (e : DeckEntry). e.value) (entry_at i c.entries)) cs)
       → All (λ (c : ColumnValue). All (λ (e : DeckEntry). e.row ≡ i → IsMultipleOfTen e.value) c.entries) cs
@@ -160,8 +160,10 @@ module _ (d : DeckValue) (deck : IsDeck d) (sayable : IsSayable d) where
 
   pub row_scale_is : (i : ℕ) (r : Row) → AtPlace d.rows i r → made_scale (normal_said d) (suc i) (row_known r) ≡ r.scale
   row_scale_is i r at =
-      let all : coefficients (normal_said d) (suc i) ++ numbers_beside (row_known r) ≡ map (written r.scale) (values i ++ beside r) =
-      ap (λ (vs : List Decimal). vs ++ numbers_beside (row_known r)) (row_numbers i r at) ∙ ap (λ (vs : List Decimal). map (written r.scale) (values i) ++ vs) (row_beside r) ∙ sym (map_both (written r.scale) (values i) (beside r)) in
+      let all : coefficients (normal_said d) (suc i) ++ (arcs_in (normal_said d) (suc i) ++ numbers_beside (row_known r)) ≡ map (written r.scale) (values i ++ beside r) =
+      ap (λ (vs : List Decimal). vs ++ (arcs_in (normal_said d) (suc i) ++ numbers_beside (row_known r))) (row_numbers i r at)
+      ∙ ap (λ (vs : List Decimal). map (written r.scale) (values i) ++ (vs ++ numbers_beside (row_known r))) (row_arcs d i)
+      ∙ ap (λ (vs : List Decimal). map (written r.scale) (values i) ++ vs) (row_beside r) ∙ sym (map_both (written r.scale) (values i) (beside r)) in
       ap least_scale all ∙ scale-law r.scale (values i ++ beside r) some
     where
       some : 1 ≤ r.scale → All IsMultipleOfTen (values i ++ beside r) → ⊥
@@ -173,7 +175,7 @@ module _ (d : DeckValue) (deck : IsDeck d) (sayable : IsSayable d) where
             low = low_tens r.low r.high first;
             high = high_tens r.low r.high first wide;
             entries = entries_tens i d.columns (Each-from (IsColumn (length d.rows)) d.columns deck.columns) (All-first IsMultipleOfTen (values i) (beside r) tens);
-            arcs = no_arcs (λ (a : Arc). a.row ≡ Some i → IsMultipleOfTen a.value);
+            arcs = other_arcs i;
           })
 
   -- ---- the objective
@@ -195,17 +197,25 @@ module _ (d : DeckValue) (deck : IsDeck d) (sayable : IsSayable d) where
       by [] h = tt
       by (c ∷ cs) h = (minimised_multiple d.maximise c.cost (cost_tens (cost_of d c) c.entries h.0), by cs h.1)
 
+  arcs_tens : All IsMultipleOfTen (arc_numbers d) → All (λ (a : Arc). a.row ≡ None → IsMultipleOfTen a.value) d.arcs
+  arcs_tens tens = λ k x within same. minimised_multiple d.maximise (get_or d.arcs k x).value (unmapped IsMultipleOfTen (λ (a : Arc). in_sense d.maximise a.value) d.arcs tens k x within)
+
   pub objective_scale_is : made_scale (normal_said d) 0 (objective_known d) ≡ d.scale
   objective_scale_is =
-      let all : coefficients (normal_said d) 0 ++ numbers_beside (objective_known d) ≡ map (written d.scale) (costs ++ rhs ∷ []) =
-      ap (λ (vs : List Decimal). vs ++ numbers_beside (objective_known d)) objective_numbers ∙ ap (λ (v : Decimal). map (written d.scale) costs ++ v ∷ []) (number_is d.scale rhs) ∙ sym (map_both (written d.scale) costs (rhs ∷ [])) in
-      ap least_scale all ∙ scale-law d.scale (costs ++ rhs ∷ []) some
+      let all : coefficients (normal_said d) 0 ++ (arcs_in (normal_said d) 0 ++ numbers_beside (objective_known d)) ≡ map (written d.scale) (costs ++ (arc_numbers d ++ rhs ∷ [])) =
+      ap (λ (vs : List Decimal). vs ++ (arcs_in (normal_said d) 0 ++ numbers_beside (objective_known d))) objective_numbers
+      ∙ ap (λ (vs : List Decimal). map (written d.scale) costs ++ (vs ++ numbers_beside (objective_known d))) (objective_arcs d)
+      ∙ ap (λ (v : Decimal). map (written d.scale) costs ++ (map (written d.scale) (arc_numbers d) ++ v ∷ [])) (number_is d.scale rhs)
+      ∙ ap (λ (vs : List Decimal). map (written d.scale) costs ++ vs) (sym (map_both (written d.scale) (arc_numbers d) (rhs ∷ [])))
+      ∙ sym (map_both (written d.scale) costs (arc_numbers d ++ rhs ∷ [])) in
+      ap least_scale all ∙ scale-law d.scale (costs ++ (arc_numbers d ++ rhs ∷ [])) some
     where
-      some : 1 ≤ d.scale → All IsMultipleOfTen (costs ++ rhs ∷ []) → ⊥
+      some : 1 ≤ d.scale → All IsMultipleOfTen (costs ++ (arc_numbers d ++ rhs ∷ [])) → ⊥
       some most tens =
-          let last = All-head IsMultipleOfTen rhs [] (All-last IsMultipleOfTen costs (rhs ∷ []) tens) in
+          let beside = All-last IsMultipleOfTen costs (arc_numbers d ++ rhs ∷ []) tens in
+          let last = All-head IsMultipleOfTen rhs [] (All-last IsMultipleOfTen (arc_numbers d) (rhs ∷ []) beside) in
           deck.least_scale most (record {
             constant = minimised_multiple d.maximise d.constant (negated_multiple (in_sense d.maximise d.constant) last);
-            costs = costs_tens d.columns (All-first IsMultipleOfTen costs (rhs ∷ []) tens);
-            arcs = no_arcs (λ (a : Arc). a.row ≡ None → IsMultipleOfTen a.value);
+            costs = costs_tens d.columns (All-first IsMultipleOfTen costs (arc_numbers d ++ rhs ∷ []) tens);
+            arcs = arcs_tens (All-first IsMultipleOfTen (arc_numbers d) (rhs ∷ []) beside);
           })

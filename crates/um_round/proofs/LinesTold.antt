@@ -11,7 +11,9 @@ use Rattle.um_statements.proofs.Grouped.{quiet}
 use Rattle.um_mps.specs.declared.section.Section.{Section}
 use Rattle.um_mps.specs.declared.section.Section.TheVariants as section
 use Rattle.um_mps.specs.Sections.{is_section}
-use Rattle.um_mps.specs.DeckLines.{Words, Line, Data, section_now, data_now, heading_of, data_words, is_heading, has_section}
+use Rattle.um_setsec.specs.Words.{Words}
+use Rattle.um_setsec.specs.SetLines.{weights_told}
+use Rattle.um_mps.specs.DeckLines.{Line, Data, section_now, data_now, heading_of, data_words, is_heading, has_section}
 use Rattle.um_statements.specs.Tells.{Says}
 use Rattle.um_mps.specs.LineWords.{is_objective_line}
 use Rattle.um_mps.specs.LinesSay.{line_says, data_line}
@@ -35,6 +37,7 @@ place_in s columns words = record {
   in_block = is_section section.Columns (Some s) && is_open words;
   column = if is_section section.Columns (Some s) then last_column words else None;
   used = option_and_then (set_in (Some s)) (first_line words);
+  weights = if is_section section.Sos (Some s) then last_or None (filter_map weights_told words) else None;
 }
 
 -- what each of these data lines of a section says

@@ -1,21 +1,25 @@
 -- What a maker knows that was told a deck's normal text, section by section.
-use Rattle.std.specs.Prelude.{◌≡◌, ℕ, ℤ, neg_ℤ, Bool, true, false, List, [], ◌∷◌, map, Option, Some, None, option_map, if◌then◌else◌}
+use Rattle.std.specs.Prelude.{◌≡◌, All, ℕ, ℤ, neg_ℤ, Bool, true, false, List, [], ◌∷◌, map, Option, Some, None, option_map, if◌then◌else◌}
 use Rattle.std.specs.List.{flat_map}
 use Rattle.um_num.specs.declared.decimal.Decimal.{Decimal}
-use Rattle.um_model.specs.Values.{DeckValue, ColumnValue}
+use Rattle.um_model.specs.Values.{DeckValue, ColumnValue, SetValue}
 use Rattle.um_model.specs.declared.deck.Row.{Row}
+use Rattle.um_model.specs.declared.deck.Arc.{Arc}
+use Rattle.um_model.specs.declared.deck.Member.{Member}
 use Rattle.um_model.specs.declared.deck.Kind.{Kind}
 use Rattle.um_model.specs.declared.deck.Kind.TheVariants.{Integer}
 use Rattle.um_statements.specs.declared.parts.RowKind.{RowKind}
 use Rattle.um_statements.specs.declared.parts.RowKind.TheVariants.{N}
 use Rattle.um_statements.specs.declared.parts.EntryPart.{EntryPart}
+use Rattle.um_statements.specs.declared.parts.MemberPart.{MemberPart}
+use Rattle.um_statements.specs.declared.parts.ArcPart.{ArcPart}
 use Rattle.um_statements.specs.declared.parts.BoundKind.{BoundKind}
 use Rattle.um_statements.specs.Statements.{Name, Statement}
-use Rattle.um_statements.specs.Said.{Said, RowSaid, ColumnSaid, ends_of, row_place}
+use Rattle.um_statements.specs.Said.{Said, RowSaid, ColumnSaid, SetSaid, ends_of, row_place}
 use Rattle.um_statements.specs.CallRules.{faults_in, with_all, bare_ends, option_list}
 use Rattle.um_statements.specs.Made.{low_end, high_end, kind_of}
 use Rattle.um_statements.specs.declared.parts.Ends.{Ends}
-use Rattle.um_round.specs.NormalLines.{Number, BoundPart, in_sense, is_zero_number, sides_kind, first_side, width, numbers_of, column_bounds}
+use Rattle.um_make.specs.NormalLines.{Number, BoundPart, in_sense, is_zero_number, sides_kind, first_side, width, numbers_of, column_bounds}
 use Rattle.um_round.specs.Numerals.{written}
 
 -- ---- rows
@@ -75,6 +79,20 @@ pairs_of = map (λ (b : BoundPart). (b.1, option_map (written 3) b.2))
 abbrev pub column_known : DeckValue → ColumnValue → ColumnSaid
 column_known d c = record { name = c.name; ends = ends_of (is_integer c.kind) (pairs_of (column_bounds c)); entries = flat_map (part_of (bare_rows d)) (numbers_of d c) }
 
+-- ---- sets and arcs
+
+-- a member with its own weight
+abbrev pub member_known : Member → MemberPart
+member_known m = record { column = m.column; weight = Some m.weight }
+
+-- a set behind SOS
+abbrev pub set_known : SetValue → SetSaid
+set_known s = record { name = s.name; kind = s.kind; reference = None; members = map member_known s.members }
+
+-- an arc of the objective, which is the row at 0
+abbrev pub arc_known : DeckValue → Arc → ArcPart
+arc_known d a = record { row = 0; column = a.column; value = written d.scale (in_sense d.maximise a.value) }
+
 -- ---- what is known behind each section
 
 -- behind ROWS
@@ -93,9 +111,21 @@ behind_sides d = record { name = d.name; maximise = d.maximise; rows = objective
 abbrev pub behind_ranges : DeckValue → Said
 behind_ranges d = record { name = d.name; maximise = d.maximise; rows = rows_known d; columns = map (column_bare d) d.columns; sets = []; arcs = [] }
 
--- behind BOUNDS, and so in the end
+-- behind BOUNDS
+abbrev pub behind_bounds : DeckValue → Said
+behind_bounds d = record { name = d.name; maximise = d.maximise; rows = rows_known d; columns = map (column_known d) d.columns; sets = []; arcs = [] }
+
+-- behind SOS
+abbrev pub behind_sets : DeckValue → Said
+behind_sets d = record { name = d.name; maximise = d.maximise; rows = rows_known d; columns = map (column_known d) d.columns; sets = map set_known d.sets; arcs = [] }
+
+-- behind ARCS, and so in the end
 abbrev pub normal_said : DeckValue → Said
-normal_said d = record { name = d.name; maximise = d.maximise; rows = rows_known d; columns = map (column_known d) d.columns; sets = []; arcs = [] }
+normal_said d = record { name = d.name; maximise = d.maximise; rows = rows_known d; columns = map (column_known d) d.columns; sets = map set_known d.sets; arcs = map (arc_known d) d.arcs }
+
+-- all arcs are in the objective
+abbrev pub HasObjectiveArcs : DeckValue → Type 0
+HasObjectiveArcs d = All (λ (a : Arc). a.row ≡ None) d.arcs
 
 -- ---- statements
 

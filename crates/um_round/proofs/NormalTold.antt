@@ -1,14 +1,16 @@
 -- What the lines of a deck's normal text say, line by line.
-use Rattle.std.specs.Prelude.{Bool, true, false, List, [], ◌∷◌, ◌++◌, map, option_map, if◌then◌else◌}
+use Rattle.std.specs.Prelude.{Bool, true, false, List, [], ◌∷◌, ◌++◌, map, Some, None, option_map, if◌then◌else◌}
 use Rattle.std.specs.List.{flat_map}
-use Rattle.um_model.specs.Values.{DeckValue, ColumnValue}
+use Rattle.um_model.specs.Values.{DeckValue, ColumnValue, SetValue}
 use Rattle.um_model.specs.declared.deck.Row.{Row}
+use Rattle.um_model.specs.declared.deck.Arc.{Arc}
+use Rattle.um_model.specs.declared.deck.Member.{Member}
 use Rattle.um_model.specs.declared.deck.Kind.{Kind}
 use Rattle.um_model.specs.declared.deck.Kind.TheVariants.{Integer}
 use Rattle.um_statements.specs.declared.parts.RowKind.TheVariants.{N}
-use Rattle.um_statements.specs.Statements.{Name, Statement, Title, Sense, Row as RowTold, Column, Entry, Side, Range, Bound}
+use Rattle.um_statements.specs.Statements.{Name, Statement, Title, Sense, Row as RowTold, Column, Entry, Side, Range, Bound, Set, Member as MemberTold, Arc as ArcTold}
 use Rattle.um_round.specs.Numerals.{written}
-use Rattle.um_round.specs.NormalLines.{Number, BoundPart, sides_kind, numbers_of, sides_of, ranges_of, column_bounds}
+use Rattle.um_make.specs.NormalLines.{Number, BoundPart, sides_kind, numbers_of, sides_of, ranges_of, column_bounds, column_name, arc_number}
 
 -- what the lines of a section say, behind its heading; nothing where it has none
 abbrev pub section_told : List (List Statement) → List (List Statement)
@@ -61,6 +63,26 @@ range_told n = Range n.0 (written n.1 n.2) ∷ []
 abbrev pub bound_told : BoundPart → List Statement
 bound_told b = Bound b.1 b.0 (option_map (written 3) b.2) ∷ []
 
+-- a line of a member
+abbrev pub member_told : List ColumnValue → Member → List Statement
+member_told columns m = MemberTold (column_name columns m.column) (Some (written 6 m.weight)) ∷ []
+
+-- the lines of a set
+abbrev pub set_told : List ColumnValue → SetValue → List (List Statement)
+set_told columns s = (Set s.kind s.name None ∷ []) ∷ map (member_told columns) s.members
+
+-- the lines of SOS
+abbrev pub sets_told : DeckValue → List (List Statement)
+sets_told d = flat_map (set_told d.columns) d.sets
+
+-- a line with the number of an arc of this column
+abbrev pub arc_told_of : Name → Number → List Statement
+arc_told_of column n = ArcTold n.0 column (written n.1 n.2) ∷ []
+
+-- a line of an arc
+abbrev pub arc_told : DeckValue → Arc → List Statement
+arc_told d a = arc_told_of (column_name d.columns a.column) (arc_number d a.row a.value)
+
 -- the lines up to those of ROWS
 abbrev pub front_told : DeckValue → List (List Statement)
 front_told d = (Title d.name ∷ []) ∷ (sense_told d.maximise ++ ([] ∷ rows_told d))
@@ -71,7 +93,9 @@ back_told d =
     section_told (map side_told (sides_of d))
     ++ (section_told (map range_told (ranges_of d))
     ++ (section_told (map bound_told (flat_map column_bounds d.columns))
-    ++ [] ∷ []))
+    ++ (section_told (sets_told d)
+    ++ (section_told (map (arc_told d) d.arcs)
+    ++ [] ∷ []))))
 
 -- the statements of each line
 abbrev pub normal_told : DeckValue → List (List Statement)

@@ -11,11 +11,10 @@ use Rattle.um_statements.specs.Said.{RowSaid}
 use Rattle.um_statements.specs.CallRules.{is_n}
 use Rattle.um_statements.specs.Scaled.{times_ten}
 use Rattle.um_statements.specs.Made.{low_side, high_side, side_at, range_at, row_made, sided_rows, size}
-use Rattle.um_round.specs.NormalLines.{is_zero_number, is_same, sides_kind, first_side, width}
+use Rattle.um_make.specs.NormalLines.{is_zero_number, is_same, sides_kind, first_side, width}
 use Rattle.um_round.specs.Numerals.{written}
-use Rattle.um_round.specs.Sayable.{IsSayable}
 use Rattle.um_round.proofs.EachItem.{Each-from, each_at_place}
-use Rattle.um_round.proofs.NormalSaid.{normal_said, told_number, row_known}
+use Rattle.um_round.proofs.NormalSaid.{normal_said, told_number, row_known, HasObjectiveArcs}
 use Rattle.um_round.proofs.Numerals.{scaled_back}
 use Rattle.um_round.proofs.KnownNumbers.{zero_is}
 use Rattle.um_round.proofs.KnownScales.{number_is, never_n, row_scale_is}
@@ -106,9 +105,9 @@ row_back r is =
     let highs = high_is r is in
     λ i. record { name = r.name; scale = r.scale; low = lows i; high = highs i }
 
-module _ (d : DeckValue) (deck : IsDeck d) (sayable : IsSayable d) where
+module _ (d : DeckValue) (deck : IsDeck d) (in_objective : HasObjectiveArcs d) where
   made_row : (i : ℕ) (r : Row) → AtPlace d.rows i r → row_made (normal_said d) (suc i, row_known r) ≡ r
-  made_row i r at = ap (row_scaled r) (row_scale_is d deck sayable i r at) ∙ row_back r (each_at_place IsRow d.rows i r (Each-from IsRow d.rows deck.rows) at)
+  made_row i r at = ap (row_scaled r) (row_scale_is d deck in_objective i r at) ∙ row_back r (each_at_place IsRow d.rows i r (Each-from IsRow d.rows deck.rows) at)
 
   made_from : (n : ℕ) (rows : List Row) → ((i : ℕ) (r : Row) → AtPlace rows i r → (m : ℕ) → m ≡ n + i → row_made (normal_said d) (m, row_known r) ≡ r) → map (row_made (normal_said d)) (enumerate_from n (map row_known rows)) ≡ rows
   made_from n [] h = refl

@@ -14,7 +14,7 @@ use Rattle.um_statements.specs.declared.parts.RowKind.TheVariants.{N}
 use Rattle.um_statements.specs.Statements.{Name, Row as RowTold}
 use Rattle.um_statements.specs.Said.{Said, RowSaid}
 use Rattle.um_statements.specs.CallRules.{rules_of, with_statement, is_n}
-use Rattle.um_round.specs.NormalLines.{sides_kind}
+use Rattle.um_make.specs.NormalLines.{sides_kind}
 use Rattle.um_round.proofs.EachItem.{Each}
 use Rattle.um_round.proofs.NormalTold.{row_told, rows_told}
 use Rattle.um_round.proofs.NormalSaid.{Runs, bare, row_bare, behind_rows}

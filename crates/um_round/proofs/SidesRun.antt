@@ -9,7 +9,7 @@ use Rattle.um_model.specs.Values.{DeckValue}
 use Rattle.um_model.specs.WellFormed.{IsDeck}
 use Rattle.um_model.specs.declared.deck.Row.{Row}
 use Rattle.um_statements.specs.declared.parts.RowKind.TheVariants.{N}
-use Rattle.um_round.specs.NormalLines.{in_sense, is_zero_number, sides_kind, first_side, width, unless_zero, side_numbers, constant_numbers, sides_of, range_numbers, ranges_of}
+use Rattle.um_make.specs.NormalLines.{in_sense, is_zero_number, sides_kind, first_side, width, unless_zero, side_numbers, constant_numbers, sides_of, range_numbers, ranges_of}
 use Rattle.um_round.proofs.EachItem.{Each, Each-append}
 use Rattle.um_round.proofs.NormalTold.{side_told, range_told}
 use Rattle.um_round.specs.Numerals.{written}

@@ -1,15 +1,19 @@
 -- The lines of a deck's normal text are lines of words.
-use Rattle.std.proofs.Common.{◌≡◌, ℕ, zero, suc, ◌<◌, ◌≤◌, ◌^◌, Bool, true, false, not, List, [], ◌∷◌, ◌++◌, length, map, Option, Some, None, ℤ, pos, neg_ℤ, unsigned_abs, refl, ◌∙◌, arith, codes}
+use Rattle.std.proofs.Common.{◌≡◌, ℕ, zero, suc, ◌<◌, ◌≤◌, ◌^◌, Bool, true, false, not, List, [], ◌∷◌, ◌++◌, length, map, Option, Some, None, ℤ, pos, neg_ℤ, ◌≤ℤ◌, unsigned_abs, refl, ◌∙◌, arith, codes}
 use Rattle.std.specs.List.{flat_map, list_all}
 use Rattle.std.specs.Option.{ForSome}
 use Rattle.std.specs.Bool.{⊤}
 use Rattle.std.proofs.lemmas.Int.{ints}
 use Rattle.std.proofs.lemmas.Bool.{and_parts, and_from, lt-ltb, not-true}
 use Rattle.std.proofs.lemmas.List.Folds.{list_all-append, list_all-map}
-use Rattle.um_model.specs.Values.{DeckValue, ColumnValue}
-use Rattle.um_model.specs.WellFormed.{IsDeck, IsRow, IsColumn, IsEntry, IsWithin}
+use Rattle.um_model.specs.Values.{DeckValue, ColumnValue, SetValue}
+use Rattle.um_model.specs.WellFormed.{IsDeck, IsRow, IsColumn, IsEntry, IsSet, IsMember, IsArc, KindFits, IsWithin}
 use Rattle.um_model.specs.declared.deck.Row.{Row}
 use Rattle.um_model.specs.declared.deck.Entry.{Entry}
+use Rattle.um_model.specs.declared.deck.Arc.{Arc}
+use Rattle.um_model.specs.declared.deck.Member.{Member}
+use Rattle.um_model.specs.declared.deck.SetKind.{SetKind}
+use Rattle.um_model.specs.declared.deck.SetKind.TheVariants.{S1, S2}
 use Rattle.um_model.specs.declared.deck.Kind.{Kind}
 use Rattle.um_model.specs.declared.deck.Kind.TheVariants.{Continuous, Integer, Semi}
 use Rattle.um_text.specs.Words.{is_word, is_word_byte, has_bytes}
@@ -18,9 +22,10 @@ use Rattle.um_statements.specs.declared.parts.RowKind.TheVariants.{N, L, G, E}
 use Rattle.um_statements.specs.declared.parts.BoundKind.{BoundKind}
 use Rattle.um_statements.specs.declared.parts.BoundKind.TheVariants.{Up, Lo, Fx, Fr, Mi, Pl, Bv, Li, Ui, Sc}
 use Rattle.um_statements.specs.Statements.{Name}
-use Rattle.um_mps.specs.DeckLines.{Words, Line, Heading, Data, deck_lines}
-use Rattle.um_round.specs.NormalLines.{in_sense, is_zero_number, section_of, title_words, sense_lines, sides_kind, kind_word, row_words, rows_data, row_name, scale_of_row, Number, number_words, cost_numbers, entry_number, or_one, numbers_of, marker_words, marked, column_data, columns_data, first_side, side_numbers, constant_numbers, sides_of, sides_data, width, range_numbers, ranges_of, ranges_data, bound_name, BoundPart, bound_line_of, bound_words, ends_bounds, column_bounds, bounds_data, front_lines, columns_lines, back_lines, normal_lines, normal_text}
-use Rattle.um_round.specs.Numerals.{numeral}
+use Rattle.um_setsec.specs.Words.{Words}
+use Rattle.um_mps.specs.DeckLines.{Line, Heading, Data, deck_lines}
+use Rattle.um_make.specs.NormalLines.{in_sense, is_zero_number, section_of, title_words, sense_lines, sides_kind, kind_word, row_words, rows_data, row_name, scale_of_row, Number, number_words, cost_numbers, entry_number, or_one, numbers_of, marker_words, marked, column_data, columns_data, first_side, side_numbers, constant_numbers, sides_of, sides_data, width, range_numbers, ranges_of, ranges_data, bound_name, BoundPart, bound_line_of, bound_words, ends_bounds, kind_bounds, column_bounds, bounds_data, set_word, column_name, member_words, set_data, sets_data, arc_number, arc_line_of, arc_words, arcs_data, front_lines, columns_lines, back_lines, normal_lines, normal_text}
+use Rattle.um_make.specs.Numerals.{numeral}
 use Rattle.um_round.specs.Sayable.{is_marker_word, HasWordNames}
 use Rattle.um_round.proofs.EachItem.{Each, Each-append, Each-from, Each-true, Each-both, Each-map, Each-flat, Each-if}
 use Rattle.um_round.proofs.LineBytes.{is_line, lines-law}
@@ -179,6 +184,7 @@ FitsKind Fr None = ⊤
 FitsKind Mi None = ⊤
 FitsKind Lo (Some z) = IsSmall z
 FitsKind Up (Some z) = IsSmall z
+FitsKind Sc (Some z) = IsSmall z
 FitsKind kind value = ⊥
 
 pub record IsFineBound (b : BoundPart) : Type 0 where
@@ -200,6 +206,7 @@ bound_named Sc = refl
 value_small : (kind : BoundKind) (z : ℤ) → FitsKind kind (Some z) → IsSmall z
 value_small Lo z h = h
 value_small Up z h = h
+value_small Sc z h = h
 value_small other z h = absurd h
 
 bound_in_words : (kind : BoundKind) (column : Name) (value : Option ℤ) → is_word column ≡ true → FitsKind kind value → is_words (bound_line_of kind column value) ≡ true
@@ -215,11 +222,60 @@ fine_ends column None (Some high) t h k = (record { column = t; fits = tt }, (re
 fine_ends column (Some low) None t h k = Each-if IsFineBound (is_zero_number low) (column, Lo, Some low) (record { column = t; fits = omega (arith, h low refl) })
 fine_ends column (Some low) (Some high) t h k = (record { column = t; fits = omega (arith, h low refl) }, (record { column = t; fits = omega (arith, k high refl) }, tt))
 
+fine_kind : (column : Name) (kind : Kind) (low high : Option ℤ) → is_word column ≡ true → KindFits kind low high → ForSome low (IsWithin (10 ^ 10)) → ForSome high (IsWithin (10 ^ 10)) → Each IsFineBound (kind_bounds column kind low high)
+fine_kind column Continuous low high t fits h k = fine_ends column low high t h k
+fine_kind column Integer low high t fits h k = fine_ends column low high t h k
+fine_kind column (Semi threshold) low None t fits h k = tt
+fine_kind column (Semi threshold) low (Some high) t fits h k =
+    let up : pos 0 ≤ℤ threshold = fits.2 in
+    let below : threshold ≤ℤ high = fits.3 high refl in
+    (record { column = t; fits = omega (arith, ints, up, below, k high refl) }, (record { column = t; fits = omega (arith, k high refl) }, tt))
+
 pub fine_bounds : (d : DeckValue) → IsDeck d → HasWordNames d → Each IsFineBound (flat_map column_bounds d.columns)
 fine_bounds d deck named =
     Each-flat (λ (c : ColumnValue). IsColumn (length d.rows) c × (is_word c.name ≡ true)) IsFineBound column_bounds
-    (λ (c : ColumnValue) h. fine_ends c.name c.low c.high h.1 h.0.low h.0.high) d.columns
+    (λ (c : ColumnValue) h. fine_kind c.name c.kind c.low c.high h.1 h.0.kind h.0.low h.0.high) d.columns
     (Each-both (IsColumn (length d.rows)) (λ (c : ColumnValue). is_word c.name ≡ true) d.columns (Each-from (IsColumn (length d.rows)) d.columns deck.columns) (Each-true (λ (c : ColumnValue). is_word c.name) d.columns named.columns))
+
+-- ---- SOS
+
+set_is_word : (k : SetKind) → is_word (set_word k) ≡ true
+set_is_word S1 = refl
+set_is_word S2 = refl
+
+abbrev HasColumnWords : List ColumnValue → Type 0
+HasColumnWords columns = Each (λ (c : ColumnValue). is_word c.name ≡ true) columns
+
+column_named : (columns : List ColumnValue) (j : ℕ) → j < length columns → HasColumnWords columns → is_word (column_name columns j) ≡ true
+column_named [] j h k = absurd (omega (arith, h))
+column_named (c ∷ columns) zero h k = k.0
+column_named (c ∷ columns) (suc j) h k = column_named columns j (omega (arith, h)) k.1
+
+member_in_words : (d : DeckValue) → HasColumnWords d.columns → (m : Member) → IsMember d m → is_words (member_words d.columns m) ≡ true
+member_in_words d columns m is = two_words (column_name d.columns m.column) (numeral 6 m.weight) (column_named d.columns m.column is.column columns) (small_word 6 m.weight (omega (arith, is.weight)))
+
+set_in_words : (d : DeckValue) → HasColumnWords d.columns → (s : SetValue) → IsSet d s → is_word s.name ≡ true → Each (λ ws. is_words ws ≡ true) (set_data d.columns s)
+set_in_words d columns s is name =
+    (two_words (set_word s.kind) s.name (set_is_word s.kind) name, Each-map (IsMember d) (λ ws. is_words ws ≡ true) (member_words d.columns) (member_in_words d columns) s.members (Each-from (IsMember d) s.members is.members))
+
+sets_in_words : (d : DeckValue) → IsDeck d → HasWordNames d → HasColumnWords d.columns → list_all is_words (sets_data d) ≡ true
+sets_in_words d deck named columns =
+    let each = Each-both (IsSet d) (λ (s : SetValue). is_word s.name ≡ true) d.sets (Each-from (IsSet d) d.sets deck.sets) (Each-true (λ (s : SetValue). is_word s.name) d.sets named.sets) in
+    all_words (sets_data d) (Each-flat (λ (s : SetValue). IsSet d s × (is_word s.name ≡ true)) (λ ws. is_words ws ≡ true) (set_data d.columns) (λ s h. set_in_words d columns s h.0 h.1) d.sets each)
+
+-- ---- ARCS
+
+pub fine_arc : (d : DeckValue) → HasFineRows d → (row : Option ℕ) (z : ℤ) → ForSome row (λ i. i < length d.rows) → IsSmall z → IsFine (arc_number d row z)
+fine_arc d fine None z h size = record { word = fine.objective; no_marker = fine.no_marker; size = small_in_sense d.maximise z size; scale = fine.scale }
+fine_arc d fine (Some row) z h size = fine_at d.rows row z (h row refl) fine.rows size
+
+arc_in_words : (column : Name) (n : Number) → is_word column ≡ true → IsFine n → is_words (arc_line_of column n) ≡ true
+arc_in_words column n t fine = four_words (codes "Q") n.0 column (numeral n.1 n.2) refl fine.word t (small_word n.1 n.2 fine.size)
+
+arcs_in_words : (d : DeckValue) → IsDeck d → HasFineRows d → HasColumnWords d.columns → list_all is_words (arcs_data d) ≡ true
+arcs_in_words d deck fine columns =
+    all_words (arcs_data d) (Each-map (IsArc d) (λ ws. is_words ws ≡ true) (arc_words d)
+    (λ (a : Arc) is. arc_in_words (column_name d.columns a.column) (arc_number d a.row a.value) (column_named d.columns a.column is.column columns) (fine_arc d fine a.row a.value is.row (omega (arith, is.size)))) d.arcs (Each-from (IsArc d) d.arcs deck.arcs))
 
 -- ---- lines
 
@@ -247,13 +303,16 @@ lines_in_words d deck named =
     let fine = fine_rows d deck named in
     let names = and_parts (is_word d.objective_name) _ named.rows in
     let rows : list_all is_words (rows_data d) ≡ true = and_from _ _ (two_words (codes "N") d.objective_name refl fine.objective) (rows_in_words d.rows names.1) in
-    let columns = columns_in_words d fine d.columns (Each-from (IsColumn (length d.rows)) d.columns deck.columns) (Each-true (λ (c : ColumnValue). is_word c.name) d.columns named.columns) in
+    let column_words = Each-true (λ (c : ColumnValue). is_word c.name) d.columns named.columns in
+    let columns = columns_in_words d fine d.columns (Each-from (IsColumn (length d.rows)) d.columns deck.columns) column_words in
     let sides = fine_lines (codes "RHS") (sides_of d) refl (fine_sides d deck fine) in
     let ranges = fine_lines (codes "RNG") (ranges_of d) refl (fine_ranges d fine) in
     let bounds = bounds_in_words (flat_map column_bounds d.columns) (fine_bounds d deck named) in
     let back = both_lines (section_of (codes "RHS") (sides_data d)) _ (section_in_words (codes "RHS") (sides_data d) refl sides)
     (both_lines (section_of (codes "RANGES") (ranges_data d)) _ (section_in_words (codes "RANGES") (ranges_data d) refl ranges)
-    (both_lines (section_of (codes "BOUNDS") (bounds_data d)) _ (section_in_words (codes "BOUNDS") (bounds_data d) refl bounds) refl)) in
+    (both_lines (section_of (codes "BOUNDS") (bounds_data d)) _ (section_in_words (codes "BOUNDS") (bounds_data d) refl bounds)
+    (both_lines (section_of (codes "SOS") (sets_data d)) _ (section_in_words (codes "SOS") (sets_data d) refl (sets_in_words d deck named column_words))
+    (both_lines (section_of (codes "ARCS") (arcs_data d)) _ (section_in_words (codes "ARCS") (arcs_data d) refl (arcs_in_words d deck fine column_words)) refl)))) in
     let middle : list_all is_line (columns_lines d) ≡ true = and_from _ _ refl (list_all-map is_line Data (columns_data d) ∙ columns) in
     let front : list_all is_line (front_lines d) ≡ true = and_from _ _ (title_in_words d.name named.name) (both_lines (sense_lines d.maximise) (section_of (codes "ROWS") (rows_data d)) (sense_in_words d.maximise) (section_in_words (codes "ROWS") (rows_data d) refl rows)) in
     both_lines (front_lines d) (columns_lines d ++ back_lines d) front (both_lines (columns_lines d) (back_lines d) middle back)

@@ -2,16 +2,18 @@
 use Rattle.std.specs.Prelude.{◌≡◌, ℕ, pos, negsuc, true, List, [], ◌∷◌, ◌++◌, codes, Some, None}
 use Rattle.std.specs.List.{flat_map}
 use Rattle.um_model.specs.Values.{DeckValue}
-use Rattle.um_model.specs.declared.deck.Kind.TheVariants.{Continuous, Integer}
+use Rattle.um_model.specs.declared.deck.Kind.TheVariants.{Continuous, Integer, Semi}
+use Rattle.um_model.specs.declared.deck.SetKind.TheVariants.{S2}
 use Rattle.um_mps.specs.DeckText.{DeckText}
-use Rattle.um_round.specs.Numerals.{numeral}
-use Rattle.um_round.specs.NormalLines.{normal_text}
+use Rattle.um_make.specs.Numerals.{numeral}
+use Rattle.um_make.specs.NormalLines.{normal_text}
 
 -- these lines, each with LF
 abbrev pub text : List (List ℕ) → List ℕ
 text = flat_map (λ line. line ++ 10 ∷ [])
 
--- a deck that maximises, with a constant, rows of each kind, an integer column, and columns with all choices of ends
+-- a deck that maximises, with a constant, rows of each kind, an integer and a semicontinuous column, columns with all
+-- choices of ends, an ordered set and an arc
 abbrev pub small_deck : DeckValue
 small_deck = record {
   name = codes "RICH";
@@ -26,9 +28,10 @@ small_deck = record {
       ∷ record { name = codes "w"; kind = Continuous; low = Some (pos 0); high = Some (pos 2000); cost = pos 0; entries = [] }
       ∷ record { name = codes "v"; kind = Continuous; low = None; high = None; cost = pos 0; entries = [] }
       ∷ record { name = codes "u"; kind = Continuous; low = Some (pos 500); high = None; cost = pos 0; entries = [] }
-      ∷ record { name = codes "t"; kind = Continuous; low = Some (pos 0); high = None; cost = pos 0; entries = [] } ∷ [];
-  sets = [];
-  arcs = [];
+      ∷ record { name = codes "t"; kind = Continuous; low = Some (pos 0); high = None; cost = pos 0; entries = [] }
+      ∷ record { name = codes "s"; kind = Semi (pos 1500); low = Some (pos 0); high = Some (pos 4000); cost = pos 20; entries = [] } ∷ [];
+  sets = record { name = codes "PAIR"; kind = S2; members = record { column = 2; weight = pos 500000 } ∷ record { column = 6; weight = pos 2000000 } ∷ [] } ∷ [];
+  arcs = record { row = None; column = 0; value = pos 5 } ∷ [];
 }
 
 -- its lines
@@ -53,6 +56,7 @@ small_lines =
     ∷ codes " v GAIN 0"
     ∷ codes " u GAIN 0"
     ∷ codes " t GAIN 0"
+    ∷ codes " s GAIN -2"
     ∷ codes "RHS"
     ∷ codes " RHS LIM1 6"
     ∷ codes " RHS LIM2 3"
@@ -69,6 +73,14 @@ small_lines =
     ∷ codes " UP BND w 2"
     ∷ codes " FR BND v"
     ∷ codes " LO BND u 0.5"
+    ∷ codes " LO BND s 1.5"
+    ∷ codes " SC BND s 4"
+    ∷ codes "SOS"
+    ∷ codes " S2 PAIR"
+    ∷ codes " w 0.5"
+    ∷ codes " s 2"
+    ∷ codes "ARCS"
+    ∷ codes " Q GAIN x -0.5"
     ∷ codes "ENDATA" ∷ []
 
 -- what these numerals and this text are, and that the text is read as the deck

@@ -4,13 +4,15 @@ use Rattle.um_text.specs.Decimals.{decimal_value}
 use Rattle.um_text.specs.Words.{is_word}
 use Rattle.um_model.specs.Values.{DeckValue}
 use Rattle.um_model.specs.WellFormed.{IsDeck}
+use Rattle.um_statements.specs.Laws.{IsDeckOfObjective}
 use Rattle.um_statements.specs.Scaled.{times_ten, decimals}
+use Rattle.um_setsec.specs.Numbers.{number}
+use Rattle.um_make.specs.Numerals.{numeral}
+use Rattle.um_make.specs.NormalLines.{normal_lines, normal_text}
 use Rattle.um_mps.specs.DeckLines.{deck_lines}
 use Rattle.um_mps.specs.DeckText.{DeckText}
-use Rattle.um_mps.specs.LineWords.{number}
-use Rattle.um_round.specs.Numerals.{numeral, written}
-use Rattle.um_round.specs.NormalLines.{normal_lines, normal_text}
-use Rattle.um_round.specs.Sayable.{HasWordNames, IsSayable}
+use Rattle.um_round.specs.Numerals.{written}
+use Rattle.um_round.specs.Sayable.{HasWordNames}
 
 -- A written numeral is one word, and is read as the number that was written; at its scale that is the number again; and
 -- it has as many decimals as its scale where it isn't a multiple of ten.
@@ -26,6 +28,7 @@ pub record NumeralLaw : Type 0 where
 abbrev pub NormalLinesLaw : Type 0
 NormalLinesLaw = (d : DeckValue) → IsDeck d → HasWordNames d → deck_lines (normal_text d) ≡ normal_lines d
 
--- the normal text of a deck is a deck text of that deck, and so of no other, where it is no longer than a text may be
+-- The normal text of a deck whose arcs are in the objective is a deck text of that deck, and so of no other, where it is no
+-- longer than a text may be.
 abbrev pub RoundLaw : Type 0
-RoundLaw = (d : DeckValue) → IsDeck d → HasWordNames d → IsSayable d → length (normal_text d) ≤ 16777216 → DeckText (normal_text d) d
+RoundLaw = (d : DeckValue) → IsDeckOfObjective d → HasWordNames d → length (normal_text d) ≤ 16777216 → DeckText (normal_text d) d

@@ -18,7 +18,7 @@ pub fn normal_lines_law()
     ensures { NormalLinesLaw }
 {}
 
-/// The normal text of a deck is a deck text of that deck.
+/// The normal text of a deck whose arcs are in the objective is a deck text of that deck.
 pub fn round_law()
     ensures { RoundLaw }
 {}

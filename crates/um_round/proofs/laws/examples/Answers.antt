@@ -11,8 +11,8 @@ use Rattle.um_mps.specs.DeckLines.{line_of, deck_lines, section_now, data_now}
 use Rattle.um_mps.specs.Places.{place_of}
 use Rattle.um_mps.specs.LinesSay.{line_says}
 use Rattle.um_mps.specs.DeckText.{DeckText, told, line_fault, counted, broken, text_fault, text_deck}
-use Rattle.um_round.specs.Numerals.{numeral}
-use Rattle.um_round.specs.NormalLines.{normal_lines, normal_text}
+use Rattle.um_make.specs.Numerals.{numeral}
+use Rattle.um_make.specs.NormalLines.{normal_lines, normal_text}
 use Rattle.um_round.specs.Examples.{small_deck, small_lines, text}
 use Rattle.um_round.proofs.laws.examples.Goals as goal
 

@@ -1,20 +1,24 @@
--- The normal text of a deck without ordered sets, arcs and semicontinuous columns: its lines, each a heading or data, as
--- words.
+-- The normal text of a deck: its lines, each a heading or data, as words.
 use Rattle.std.specs.Prelude.{ℕ, ℤ, pos, neg_ℤ, ◌-ℤ◌, unsigned_abs, int_le, Bool, ◌&&◌, nat_eq, List, [], ◌∷◌, ◌++◌, map, Option, Some, None, slice_index_or, codes, if◌then◌else◌}
 use Rattle.std.specs.List.{flat_map}
-use Rattle.um_model.specs.Values.{DeckValue, ColumnValue}
+use Rattle.um_model.specs.Values.{DeckValue, ColumnValue, SetValue}
 use Rattle.um_model.specs.declared.deck.Row.{Row}
 use Rattle.um_model.specs.declared.deck.Entry.{Entry}
 use Rattle.um_model.specs.declared.deck.Kind.{Kind}
-use Rattle.um_model.specs.declared.deck.Kind.TheVariants.{Integer}
+use Rattle.um_model.specs.declared.deck.Kind.TheVariants.{Integer, Semi}
+use Rattle.um_model.specs.declared.deck.Arc.{Arc}
+use Rattle.um_model.specs.declared.deck.Member.{Member}
+use Rattle.um_model.specs.declared.deck.SetKind.{SetKind}
+use Rattle.um_model.specs.declared.deck.SetKind.TheVariants.{S1, S2}
 use Rattle.um_statements.specs.declared.parts.RowKind.{RowKind}
 use Rattle.um_statements.specs.declared.parts.RowKind.TheVariants.{N, L, G, E}
 use Rattle.um_statements.specs.declared.parts.BoundKind.{BoundKind}
 use Rattle.um_statements.specs.declared.parts.BoundKind.TheVariants.{Up, Lo, Fx, Fr, Mi, Pl, Bv, Li, Ui, Sc}
 use Rattle.um_statements.specs.Statements.{Name}
 use Rattle.um_text.specs.Texts.{lines_text}
-use Rattle.um_mps.specs.DeckLines.{Words, Line, Skipped, Heading, Data}
-use Rattle.um_round.specs.Numerals.{numeral}
+use Rattle.um_setsec.specs.Words.{Words}
+use Rattle.um_mps.specs.DeckLines.{Line, Skipped, Heading, Data}
+use Rattle.um_make.specs.Numerals.{numeral}
 
 -- ---- words
 
@@ -194,20 +198,72 @@ bound_line_of kind column (Some z) = bound_name kind ∷ codes "BND" ∷ column 
 abbrev pub bound_words : BoundPart → Words
 bound_words b = bound_line_of b.1 b.0 b.2
 
--- the bounds of a column: none for 0 and infinity
+-- the bounds of a column that isn't semicontinuous: none for 0 and infinity
 abbrev pub ends_bounds : Name → Option ℤ → Option ℤ → List BoundPart
 ends_bounds column None None = (column, Fr, None) ∷ []
 ends_bounds column None (Some high) = (column, Mi, None) ∷ (column, Up, Some high) ∷ []
 ends_bounds column (Some low) None = if is_zero_number low then [] else (column, Lo, Some low) ∷ []
 ends_bounds column (Some low) (Some high) = (column, Lo, Some low) ∷ (column, Up, Some high) ∷ []
 
--- the bounds of a column by its ends
+-- the bounds of a semicontinuous column: first its threshold; it always has a high end
+abbrev pub semi_bounds : Name → (threshold : ℤ) → Option ℤ → List BoundPart
+semi_bounds column threshold None = []
+semi_bounds column threshold (Some high) = (column, Lo, Some threshold) ∷ (column, Sc, Some high) ∷ []
+
+-- the bounds of a column of this kind
+abbrev pub kind_bounds : Name → Kind → Option ℤ → Option ℤ → List BoundPart
+kind_bounds column (Semi threshold) low high = semi_bounds column threshold high
+kind_bounds column other low high = ends_bounds column low high
+
+-- the bounds of a column by its kind and ends
 abbrev pub column_bounds : ColumnValue → List BoundPart
-column_bounds c = ends_bounds c.name c.low c.high
+column_bounds c = kind_bounds c.name c.kind c.low c.high
 
 -- the lines of BOUNDS
 abbrev pub bounds_data : DeckValue → List Words
 bounds_data d = map bound_words (flat_map column_bounds d.columns)
+
+-- ---- SOS
+
+-- the word of a kind of set
+abbrev pub set_word : SetKind → List ℕ
+set_word S1 = codes "S1"
+set_word S2 = codes "S2"
+
+-- the name of the column of this index
+abbrev pub column_name : List ColumnValue → ℕ → Name
+column_name columns j = slice_index_or (map (λ (c : ColumnValue). c.name) columns) j []
+
+-- the line of a member; its weight is in millionths
+abbrev pub member_words : List ColumnValue → Member → Words
+member_words columns m = column_name columns m.column ∷ numeral 6 m.weight ∷ []
+
+-- the lines of a set: its kind and name, then its members by weight, as a deck keeps them
+abbrev pub set_data : List ColumnValue → SetValue → List Words
+set_data columns s = (set_word s.kind ∷ s.name ∷ []) ∷ map (member_words columns) s.members
+
+-- the lines of SOS
+abbrev pub sets_data : DeckValue → List Words
+sets_data d = flat_map (set_data d.columns) d.sets
+
+-- ---- ARCS
+
+-- the number of an arc: one of the objective has the deck's sense
+abbrev pub arc_number : DeckValue → Option ℕ → ℤ → Number
+arc_number d None z = (d.objective_name, d.scale, in_sense d.maximise z)
+arc_number d (Some row) z = (row_name d.rows row, scale_of_row d.rows row, z)
+
+-- the line of an arc of this column, with its number
+abbrev pub arc_line_of : Name → Number → Words
+arc_line_of column n = codes "Q" ∷ n.0 ∷ column ∷ numeral n.1 n.2 ∷ []
+
+-- the line of an arc
+abbrev pub arc_words : DeckValue → Arc → Words
+arc_words d a = arc_line_of (column_name d.columns a.column) (arc_number d a.row a.value)
+
+-- the lines of ARCS
+abbrev pub arcs_data : DeckValue → List Words
+arcs_data d = map (arc_words d) d.arcs
 
 -- ---- all
 
@@ -225,9 +281,11 @@ back_lines d =
     section_of (codes "RHS") (sides_data d)
     ++ (section_of (codes "RANGES") (ranges_data d)
     ++ (section_of (codes "BOUNDS") (bounds_data d)
-    ++ Heading (codes "ENDATA" ∷ []) ∷ []))
+    ++ (section_of (codes "SOS") (sets_data d)
+    ++ (section_of (codes "ARCS") (arcs_data d)
+    ++ Heading (codes "ENDATA" ∷ []) ∷ []))))
 
--- the lines of a deck without ordered sets and arcs whose columns are continuous or integer
+-- the lines of a deck
 unfoldable pub normal_lines : DeckValue → List Line
 normal_lines d = front_lines d ++ (columns_lines d ++ back_lines d)
 

@@ -1,0 +1,4 @@
+pub mod Numerals
+pub mod NormalLines
+pub mod Printed
+pub mod Places
