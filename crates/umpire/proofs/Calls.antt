@@ -5,8 +5,9 @@ use Rattle.um_outside.specs.Scenes.{Scene}
 use Rattle.um_outside.specs.Sinks.{SinkScene}
 use Rattle.umpire.specs.CheckRuns.{CheckNames, check_of, CheckRan}
 use Rattle.umpire.specs.SolveRuns.{SolveNames, solve_of, SolveRan}
+use Rattle.umpire.specs.PrintRuns.{print_of, PrintRan}
 use Rattle.umpire.specs.Refusals.{refusal_text}
-use Rattle.umpire.specs.Runs.{RanAs, NoCommandRan, WordsDue, by_command}
+use Rattle.umpire.specs.Runs.{CallPromise, RanAs, NoCommandRan, WordsDue, by_command}
 use Rattle.umpire.specs.Stops.{SaidOrNot}
 use Rattle.umpire.specs.declared.ending.Ending.{Ending}
 use Rattle.umpire.specs.declared.ending.Ending.TheVariants.{Refused}
@@ -14,26 +15,42 @@ use Rattle.umpire.specs.declared.outcome.Refusal.TheVariants.{Words}
 use Rattle.umpire.specs.declared.outcome.WordFault.TheVariants.{Line}
 use Rattle.umpire.proofs.Sayings.{said_comes}
 
-module _ (words : List (List ℕ)) (ending : Ending) (before after : Scene) (s t : SinkScene) where
-  -- the words are the first command
-  pub as_check : (names : CheckNames) → check_of words ≡ Some names → CheckRan names ending before after s t → RanAs words ending before after s t
-  as_check names is h = subst (λ (o : Option CheckNames). by_command o CheckRan (by_command (solve_of words) SolveRan NoCommandRan) ending before after s t) (sym is) h
+-- ---- the commands that are left when the first ones are ruled out
 
-  -- they are not, but they are the second
+abbrev behind_solve : List (List ℕ) → CallPromise
+behind_solve words = by_command (print_of words) PrintRan NoCommandRan
+
+abbrev behind_check : List (List ℕ) → CallPromise
+behind_check words = by_command (solve_of words) SolveRan (behind_solve words)
+
+module _ (words : List (List ℕ)) (ending : Ending) (before after : Scene) (s t : SinkScene) where
+  -- the words are not the first command
+  not_check : check_of words ≡ None → behind_check words ending before after s t → RanAs words ending before after s t
+  not_check none h = subst (λ (o : Option CheckNames). by_command o CheckRan (behind_check words) ending before after s t) (sym none) h
+
+  -- nor the second
+  not_solve : solve_of words ≡ None → behind_solve words ending before after s t → behind_check words ending before after s t
+  not_solve none h = subst (λ (o : Option SolveNames). by_command o SolveRan (behind_solve words) ending before after s t) (sym none) h
+
+  -- they are the first command
+  pub as_check : (names : CheckNames) → check_of words ≡ Some names → CheckRan names ending before after s t → RanAs words ending before after s t
+  as_check names is h = subst (λ (o : Option CheckNames). by_command o CheckRan (behind_check words) ending before after s t) (sym is) h
+
+  -- the second
   pub as_solve : (names : SolveNames) → check_of words ≡ None → solve_of words ≡ Some names → SolveRan names ending before after s t → RanAs words ending before after s t
-  as_solve names none is h =
-      subst (λ (o : Option CheckNames). by_command o CheckRan (by_command (solve_of words) SolveRan NoCommandRan) ending before after s t) (sym none)
-      (subst (λ (o : Option SolveNames). by_command o SolveRan NoCommandRan ending before after s t) (sym is) h)
+  as_solve names none is h = not_check none (subst (λ (o : Option SolveNames). by_command o SolveRan (behind_solve words) ending before after s t) (sym is) h)
+
+  -- the third
+  pub as_print : (deck : List ℕ) → check_of words ≡ None → solve_of words ≡ None → print_of words ≡ Some deck → PrintRan deck ending before after s t → RanAs words ending before after s t
+  as_print deck none other is h = not_check none (not_solve other (subst (λ (o : Option (List ℕ)). by_command o PrintRan NoCommandRan ending before after s t) (sym is) h))
 
   -- they are none
-  as_none : check_of words ≡ None → solve_of words ≡ None → NoCommandRan ending before after s t → RanAs words ending before after s t
-  as_none none other h =
-      subst (λ (o : Option CheckNames). by_command o CheckRan (by_command (solve_of words) SolveRan NoCommandRan) ending before after s t) (sym none)
-      (subst (λ (o : Option SolveNames). by_command o SolveRan NoCommandRan ending before after s t) (sym other) h)
+  as_none : check_of words ≡ None → solve_of words ≡ None → print_of words ≡ None → NoCommandRan ending before after s t → RanAs words ending before after s t
+  as_none none other third h = not_check none (not_solve other (subst (λ (o : Option (List ℕ)). by_command o PrintRan NoCommandRan ending before after s t) (sym third) h))
 
-pub as_words : (words : List (List ℕ)) (ending : Ending) (desk : Scene) (s t : SinkScene) → check_of words ≡ None → solve_of words ≡ None → SaidOrNot (refusal_text (Words Line)) (Refused (Words Line)) ending s t → RanAs words ending desk desk s t
-as_words words ending desk s t none other said =
-    as_none words ending desk desk s t none other (record {
+pub as_words : (words : List (List ℕ)) (ending : Ending) (desk : Scene) (s t : SinkScene) → check_of words ≡ None → solve_of words ≡ None → print_of words ≡ None → SaidOrNot (refusal_text (Words Line)) (Refused (Words Line)) ending s t → RanAs words ending desk desk s t
+as_words words ending desk s t none other third said =
+    as_none words ending desk desk s t none other third (record {
       comes = said_comes WordsDue ⊥ desk desk s t (Refused (Words Line)) ending (refusal_text (Words Line)) tt (refl, refl) (record { faults = omega arith; stopped = refl }) said;
       unopened = refl;
     })

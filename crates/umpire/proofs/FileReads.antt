@@ -5,7 +5,7 @@ use Rattle.um_outside.specs.WholeFiles.{ReadWhole, ReadTooMuch, ReadGivenUp}
 use Rattle.um_model.specs.Values.{DeckValue}
 use Rattle.um_model.specs.AnswerValues.{AnswerValue}
 use Rattle.um_mps.specs.declared.reader.ReadFault.{ReadFault}
-use Rattle.umpire.specs.Findings.{HasDeck, HasTree, HasNoDeck, HasNoTree}
+use Rattle.umpire.specs.Findings.{HasDeck, HasSearchedDeck, HasTree, HasNoDeck, HasNoSearchedDeck, HasNoTree}
 
 whole_left : (name bytes : List ℕ) (s t : Scene) → ReadWhole name bytes s t → ReadGivenUp name s t
 whole_left name bytes s t h = record { well = h.well; put = h.put; holds = h.holds; asked = h.asked }
@@ -13,10 +13,17 @@ whole_left name bytes s t h = record { well = h.well; put = h.put; holds = h.hol
 too_much_left : (name : List ℕ) (most : ℕ) (s t : Scene) → ReadTooMuch name most s t → ReadGivenUp name s t
 too_much_left name most s t h = record { well = h.well; put = h.put; holds = h.holds; asked = h.asked }
 
-pub deck_left : (name : List ℕ) (d : DeckValue) (s t : Scene) → HasDeck name d s t → ReadGivenUp name s t
+pub any_deck_left : (name : List ℕ) (d : DeckValue) (s t : Scene) → HasDeck name d s t → ReadGivenUp name s t
+any_deck_left name d s t h = whole_left name h.bytes s t h.read
+
+pub no_text_left : (name : List ℕ) (f : ReadFault) (s t : Scene) → HasNoDeck name f s t → ReadGivenUp name s t
+no_text_left name f s t (inl h) = whole_left name h.bytes s t h.read
+no_text_left name f s t (inr h) = too_much_left name 16777216 s t h.1
+
+pub deck_left : (name : List ℕ) (d : DeckValue) (s t : Scene) → HasSearchedDeck name d s t → ReadGivenUp name s t
 deck_left name d s t h = whole_left name h.bytes s t h.read
 
-pub no_deck_left : (name : List ℕ) (f : ReadFault) (s t : Scene) → HasNoDeck name f s t → ReadGivenUp name s t
+pub no_deck_left : (name : List ℕ) (f : ReadFault) (s t : Scene) → HasNoSearchedDeck name f s t → ReadGivenUp name s t
 no_deck_left name f s t (inl h) = whole_left name h.bytes s t h.read
 no_deck_left name f s t (inr h) = too_much_left name 16777216 s t h.1
 

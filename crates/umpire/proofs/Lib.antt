@@ -18,3 +18,4 @@ pub mod FileReads
 pub mod Sayings
 pub mod Reportable
 pub mod SolveCalls
+pub mod PrintCalls

@@ -7,7 +7,7 @@ use Rattle.um_outside.specs.Sinks.{SinkScene, Took}
 use Rattle.umpire.specs.Calls.{ComesTo}
 use Rattle.umpire.specs.Stops.{SaidOrNot, SaidOrCut}
 use Rattle.umpire.specs.declared.ending.Ending.{Ending}
-use Rattle.umpire.specs.declared.ending.Ending.TheVariants.{Answered, Judged, Refused, Faulted, WithoutMemory}
+use Rattle.umpire.specs.declared.ending.Ending.TheVariants.{Answered, Judged, Printed, Refused, Faulted, WithoutMemory}
 
 -- the endings that have a text
 abbrev pub HasText : Ending → Type 0
@@ -19,6 +19,7 @@ module _ (Due : Ending → List ℕ → Type 0) (Fails : Type 0) (before after :
   written : (said : Ending) (text : List ℕ) → HasText said → Due said text → WentWell before after → Took text s t → ComesTo Due Fails said before after s t
   written (Answered a) text h due well took = (well, record { text = text; due = due; written = took })
   written (Judged v) text h due well took = (well, record { text = text; due = due; written = took })
+  written Printed text h due well took = (well, record { text = text; due = due; written = took })
   written (Refused r) text h due well took = (well, record { text = text; due = due; written = took })
   written Faulted text h due well took = absurd h
   written WithoutMemory text h due well took = absurd h

@@ -10,11 +10,11 @@ use Rattle.um_model.specs.AnswerValues.{AnswerValue, plain_answer}
 use Rattle.um_model.specs.declared.answer.Answer.{Answer}
 use Rattle.umpire.specs.Calls.{MakesNoFile}
 use Rattle.umpire.specs.SolveRuns.{SolveNames, SolveRan, SolveDue, SolveFails, MakesTree, tree_file, SolveKeeps, SolveFaulted, HasSolved, SolveStopped}
-use Rattle.umpire.specs.Findings.{HasDeck, Answers}
+use Rattle.umpire.specs.Findings.{HasSearchedDeck, Answers}
 use Rattle.umpire.specs.Refusals.{refusal_text}
 use Rattle.um_report.specs.Reports.{report_text}
 use Rattle.um_treetext.specs.TreeText.{tree_text}
-use Rattle.umpire.specs.Stops.{FileStopped, RefusesDeck, SaidOrCut, GaveUp}
+use Rattle.umpire.specs.Stops.{FileStopped, RefusesSearchedDeck, SaidOrCut, GaveUp}
 use Rattle.umpire.specs.declared.ending.Ending.{Ending}
 use Rattle.umpire.specs.declared.ending.Ending.TheVariants.{Answered, Refused, Faulted, WithoutMemory}
 use Rattle.umpire.specs.declared.outcome.Refusal.TheVariants.{Words, LowTolerance, Deck, Tree}
@@ -51,7 +51,7 @@ deck_keeps names s t h = record {
 }
 
 -- the deck was not taken
-pub deck_stopped : (names : SolveNames) (why : Stop) (s t : Scene) → FileStopped names.deck (RefusesDeck names.deck) why s t → SolveStopped names why s t
+pub deck_stopped : (names : SolveNames) (why : Stop) (s t : Scene) → FileStopped names.deck (RefusesSearchedDeck names.deck) why s t → SolveStopped names why s t
 deck_stopped names (stop.Refused (Deck f)) s t h = (h, deck_keeps names s t (no_deck_left names.deck f s t h))
 deck_stopped names (stop.Refused (Tree f)) s t h = absurd h
 deck_stopped names (stop.Refused (Words w)) s t h = absurd h
@@ -64,11 +64,11 @@ deck_stopped names stop.Fault s t h = record {
 deck_stopped names stop.Memory s t h = deck_keeps names s t h
 
 -- the deck was read, and no memory was found for its answer or a text
-pub deck_kept : (names : SolveNames) (d : DeckValue) (s t : Scene) → HasDeck names.deck d s t → SolveKeeps names s t
+pub deck_kept : (names : SolveNames) (d : DeckValue) (s t : Scene) → HasSearchedDeck names.deck d s t → SolveKeeps names s t
 deck_kept names d s t h = deck_keeps names s t (deck_left names.deck d s t h)
 
 -- the deck was read and solved, and no tree asked for
-pub solved_alone : (name : List ℕ) (d : DeckValue) (a : Answer) (report : List ℕ) (s t : Scene) → HasDeck name d s t → Answers d (plain_answer a) → report ≡ report_text d (plain_answer a) → HasSolved (record { deck = name; tree = None }) a report s t
+pub solved_alone : (name : List ℕ) (d : DeckValue) (a : Answer) (report : List ℕ) (s t : Scene) → HasSearchedDeck name d s t → Answers d (plain_answer a) → report ≡ report_text d (plain_answer a) → HasSolved (record { deck = name; tree = None }) a report s t
 solved_alone name d a report s t deck answers text =
     let kept = deck_left name d s t deck in
     record {
@@ -79,7 +79,7 @@ solved_alone name d a report s t deck answers text =
     }
 
 -- it was, and its tree written
-pub solved_with_tree : (name file : List ℕ) (d : DeckValue) (a : Answer) (report bytes : List ℕ) (s m t : Scene) → HasDeck name d s m → Answers d (plain_answer a) → report ≡ report_text d (plain_answer a) → bytes ≡ tree_text d (plain_answer a)
+pub solved_with_tree : (name file : List ℕ) (d : DeckValue) (a : Answer) (report bytes : List ℕ) (s m t : Scene) → HasSearchedDeck name d s m → Answers d (plain_answer a) → report ≡ report_text d (plain_answer a) → bytes ≡ tree_text d (plain_answer a)
     → WroteWhole file bytes m t → HasSolved (record { deck = name; tree = Some file }) a report s t
 solved_with_tree name file d a report bytes s m t deck answers text tree wrote =
     let kept = deck_left name d s m deck in
@@ -91,7 +91,7 @@ solved_with_tree name file d a report bytes s m t deck answers text tree wrote =
     }
 
 -- the tree could not be written
-pub unwritten_tree : (name file : List ℕ) (d : DeckValue) (a : AnswerValue) (s m t : Scene) → HasDeck name d s m → Answers d a → WriteFaulted file m t → SolveFaulted (record { deck = name; tree = Some file }) s t
+pub unwritten_tree : (name file : List ℕ) (d : DeckValue) (a : AnswerValue) (s m t : Scene) → HasSearchedDeck name d s m → Answers d a → WriteFaulted file m t → SolveFaulted (record { deck = name; tree = Some file }) s t
 unwritten_tree name file d a s m t deck answers failed =
     let kept = deck_left name d s m deck in
     record {
@@ -101,12 +101,12 @@ unwritten_tree name file d a s m t deck answers failed =
     }
 
 -- the same, where the file is one that was asked for
-pub solved_to : (name file : List ℕ) (tree : Option (List ℕ)) (d : DeckValue) (a : Answer) (report bytes : List ℕ) (s m t : Scene) → tree ≡ Some file → HasDeck name d s m → Answers d (plain_answer a) → report ≡ report_text d (plain_answer a)
+pub solved_to : (name file : List ℕ) (tree : Option (List ℕ)) (d : DeckValue) (a : Answer) (report bytes : List ℕ) (s m t : Scene) → tree ≡ Some file → HasSearchedDeck name d s m → Answers d (plain_answer a) → report ≡ report_text d (plain_answer a)
     → bytes ≡ tree_text d (plain_answer a) → WroteWhole file bytes m t → HasSolved (record { deck = name; tree = tree }) a report s t
 solved_to name file tree d a report bytes s m t is deck answers text written wrote =
     subst (λ (o : Option (List ℕ)). HasSolved (record { deck = name; tree = o }) a report s t) (sym is) (solved_with_tree name file d a report bytes s m t deck answers text written wrote)
 
-pub unwritten_to : (name file : List ℕ) (tree : Option (List ℕ)) (d : DeckValue) (a : AnswerValue) (s m t : Scene) → tree ≡ Some file → HasDeck name d s m → Answers d a → WriteFaulted file m t → SolveFaulted (record { deck = name; tree = tree }) s t
+pub unwritten_to : (name file : List ℕ) (tree : Option (List ℕ)) (d : DeckValue) (a : AnswerValue) (s m t : Scene) → tree ≡ Some file → HasSearchedDeck name d s m → Answers d a → WriteFaulted file m t → SolveFaulted (record { deck = name; tree = tree }) s t
 unwritten_to name file tree d a s m t is deck answers failed =
     subst (λ (o : Option (List ℕ)). SolveFaulted (record { deck = name; tree = o }) s t) (sym is) (unwritten_tree name file d a s m t deck answers failed)
 

@@ -5,7 +5,7 @@ use Rattle.um_model.specs.declared.answer.AnswerKind.TheVariants as kind
 use Rattle.um_model.specs.declared.verdict.Verdict.{Verdict}
 use Rattle.um_model.specs.declared.verdict.Verdict.TheVariants as verdict
 use Rattle.umpire.specs.declared.ending.Ending.{Ending}
-use Rattle.umpire.specs.declared.ending.Ending.TheVariants.{Answered, Judged, Refused as WasRefused, Faulted, WithoutMemory}
+use Rattle.umpire.specs.declared.ending.Ending.TheVariants.{Answered, Judged, Printed, Refused as WasRefused, Faulted, WithoutMemory}
 use Rattle.umpire.specs.declared.outcome.Outcome.{Outcome}
 use Rattle.umpire.specs.declared.outcome.Refusal.{Refusal}
 use Rattle.umpire.specs.declared.outcome.Refusal.TheVariants as refusal
@@ -25,6 +25,7 @@ status_number Fault = 7
 status_number Memory = 8
 status_number No = 9
 
+-- the status of a kind of answer
 abbrev pub answer_status : AnswerKind → Status
 answer_status kind.Optimal = Optimal
 answer_status kind.Infeasible = Infeasible
@@ -32,6 +33,7 @@ answer_status kind.Unbounded = Unbounded
 answer_status kind.Limit = Limit
 answer_status kind.Overflow = Overflow
 
+-- a verdict yes is told as Optimal
 abbrev pub verdict_status : Verdict → Status
 verdict_status verdict.Yes = Optimal
 verdict_status (verdict.No place reason) = No
@@ -42,9 +44,11 @@ refusal_status (refusal.Deck fault) = Refused
 refusal_status (refusal.Tree fault) = Refused
 refusal_status other = Words
 
+-- the status of each ending
 abbrev pub status_of : Ending → Status
 status_of (Answered a) = answer_status a.kind
 status_of (Judged v) = verdict_status v
+status_of Printed = Optimal
 status_of (WasRefused r) = refusal_status r
 status_of Faulted = Fault
 status_of WithoutMemory = Memory

@@ -21,8 +21,8 @@ use Rattle.um_treetext.specs.TreeText.{tree_text}
 -- ---- texts
 
 -- the refusal of a deck that is not searched yet, and that of a file that is longer than any deck: they name no line
-abbrev pub unread_deck : ReadFault
-unread_deck = record { line = 0; fault = deck.NotYet }
+abbrev pub unsearched_deck : ReadFault
+unsearched_deck = record { line = 0; fault = deck.NotYet }
 
 abbrev pub long_deck : ReadFault
 long_deck = record { line = 0; fault = deck.TooLong }
@@ -32,11 +32,12 @@ pub record IsUnsearchedText (bytes : List ℕ) (f : ReadFault) : Type 0 where
   pub deck : DeckValue
   pub text : DeckText bytes deck
   pub other : ¬ IsSearched deck
-  pub refusal : f ≡ unread_deck
+  pub refusal : f ≡ unsearched_deck
 
--- why the bytes are not taken as a deck: the first rule that they break, at its line; or the deck is not searched yet
-abbrev pub IsNoDeckText : List ℕ → ReadFault → Type 0
-IsNoDeckText bytes f = DeckFault bytes f.line f.fault ⊎ IsUnsearchedText bytes f
+-- why the bytes are not taken as a deck that is searched: the first rule that they break, at its line; or the deck is not
+-- searched yet
+abbrev pub IsNoSearchedText : List ℕ → ReadFault → Type 0
+IsNoSearchedText bytes f = DeckFault bytes f.line f.fault ⊎ IsUnsearchedText bytes f
 
 -- the bytes are the text of this answer for the deck, and of no other
 pub record IsTreeText (d : DeckValue) (bytes : List ℕ) (a : AnswerValue) : Type 0 where
@@ -50,8 +51,14 @@ IsNoTreeText d bytes = (a : AnswerValue) → IsFirstTree d a → bytes ≢ tree_
 
 -- ---- files
 
--- the file of this name was read to its end, and is the text of this deck, which is one that is searched
+-- the file of this name was read to its end, and is the text of this deck
 pub record HasDeck (name : List ℕ) (d : DeckValue) (s t : Scene) : Type 0 where
+  pub bytes : List ℕ
+  pub read : ReadWhole name bytes s t
+  pub text : DeckText bytes d
+
+-- the same of a deck that is searched
+pub record HasSearchedDeck (name : List ℕ) (d : DeckValue) (s t : Scene) : Type 0 where
   pub bytes : List ℕ
   pub read : ReadWhole name bytes s t
   pub text : DeckText bytes d
@@ -70,9 +77,14 @@ pub record HasOther (IsNoText : List ℕ → Type 0) (name : List ℕ) (s t : Sc
   pub read : ReadWhole name bytes s t
   pub other : IsNoText bytes
 
--- why the file of this name is not taken as a deck: its bytes are not, or it has more than 2^24 bytes
+-- why the file of this name is not taken as a deck: this is the first rule that its bytes break, or it has more than 2^24
+-- bytes
 abbrev pub HasNoDeck : List ℕ → ReadFault → Scene → Scene → Type 0
-HasNoDeck name f s t = HasOther (λ bytes. IsNoDeckText bytes f) name s t ⊎ ((f ≡ long_deck) × ReadTooMuch name 16777216 s t)
+HasNoDeck name f s t = HasOther (λ bytes. DeckFault bytes f.line f.fault) name s t ⊎ ((f ≡ long_deck) × ReadTooMuch name 16777216 s t)
+
+-- the same of a file that is not taken as a deck that is searched
+abbrev pub HasNoSearchedDeck : List ℕ → ReadFault → Scene → Scene → Type 0
+HasNoSearchedDeck name f s t = HasOther (λ bytes. IsNoSearchedText bytes f) name s t ⊎ ((f ≡ long_deck) × ReadTooMuch name 16777216 s t)
 
 -- the file of this name is the text of no answer for the deck, or longer than any tree that is taken
 abbrev pub HasNoTree : DeckValue → List ℕ → Scene → Scene → Type 0

@@ -4,6 +4,7 @@ pub mod Endings
 pub mod Calls
 pub mod CheckRuns
 pub mod SolveRuns
+pub mod PrintRuns
 pub mod Stops
 pub mod Findings
 pub mod Runs

@@ -5,6 +5,7 @@ use Rattle.um_outside.specs.Sinks.{SinkScene}
 use Rattle.umpire.specs.Calls.{ComesTo}
 use Rattle.umpire.specs.CheckRuns.{check_of, CheckRan}
 use Rattle.umpire.specs.SolveRuns.{solve_of, SolveRan}
+use Rattle.umpire.specs.PrintRuns.{print_of, PrintRan}
 use Rattle.umpire.specs.Endings.{outcome_of}
 use Rattle.umpire.specs.Refusals.{refusal_text}
 use Rattle.umpire.specs.declared.ending.Ending.{Ending}
@@ -37,7 +38,8 @@ abbrev pub RanAs : List (List ℕ) → CallPromise
 RanAs words =
     by_command (check_of words) CheckRan
     (by_command (solve_of words) SolveRan
-    NoCommandRan)
+    (by_command (print_of words) PrintRan
+    NoCommandRan))
 
 -- the outcome tells how the call ended, and what it did
 pub record Ran (words : List (List ℕ)) (o : Outcome) (before after : Scene) (s t : SinkScene) : Type 0 where

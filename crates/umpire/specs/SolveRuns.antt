@@ -8,7 +8,7 @@ use Rattle.um_model.specs.Values.{DeckValue}
 use Rattle.um_model.specs.AnswerValues.{AnswerValue, plain_answer}
 use Rattle.um_model.specs.declared.answer.Answer.{Answer}
 use Rattle.umpire.specs.Calls.{ComesTo, MakesNoFile, AsksInOrder}
-use Rattle.umpire.specs.Findings.{HasDeck, HasNoDeck, Answers}
+use Rattle.umpire.specs.Findings.{HasSearchedDeck, HasNoSearchedDeck, Answers}
 use Rattle.umpire.specs.Refusals.{refusal_text}
 use Rattle.um_report.specs.Reports.{report_text}
 use Rattle.um_treetext.specs.TreeText.{tree_text}
@@ -54,14 +54,14 @@ WritesTree (Some name) text s t = WroteWhole name text s t
 pub record Solves (names : SolveNames) (a : Answer) (text : List ℕ) (s t : Scene) : Type 0 where
   pub between : Scene
   pub deck : DeckValue
-  pub deck_read : HasDeck names.deck deck s between
+  pub deck_read : HasSearchedDeck names.deck deck s between
   pub answers : Answers deck (plain_answer a)
   pub tree : WritesTree names.tree (tree_text deck (plain_answer a)) between t
   pub report : text ≡ report_text deck (plain_answer a)
 
 -- what was read before this refusal
 abbrev pub SolveRefuses : SolveNames → Refusal → Scene → Scene → Type 0
-SolveRefuses names (Deck fault) s t = HasNoDeck names.deck fault s t
+SolveRefuses names (Deck fault) s t = HasNoSearchedDeck names.deck fault s t
 SolveRefuses names other s t = ⊥
 
 -- the report of the answer, or the line of a refusal
@@ -79,7 +79,7 @@ pub record FailsAtTreeFile (names : SolveNames) (s t : Scene) : Type 0 where
   pub answer : AnswerValue
   pub file : List ℕ
   pub named : names.tree ≡ Some file
-  pub deck_read : HasDeck names.deck deck s between
+  pub deck_read : HasSearchedDeck names.deck deck s between
   pub answers : Answers deck answer
   pub fault : WriteFaulted file between t
 

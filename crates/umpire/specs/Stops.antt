@@ -6,7 +6,8 @@ use Rattle.um_outside.specs.WholeFiles.{ReadFaulted, ReadGivenUp}
 use Rattle.um_model.specs.Values.{DeckValue}
 use Rattle.um_statements.specs.declared.fault.Fault.TheVariants as deck
 use Rattle.um_mps.specs.declared.reader.ReadFault.{ReadFault}
-use Rattle.umpire.specs.Findings.{HasNoDeck, HasNoTree, IsNoDeckText, unread_tree}
+use Rattle.um_mps.specs.DeckText.{DeckFault}
+use Rattle.umpire.specs.Findings.{HasNoDeck, HasNoSearchedDeck, HasNoTree, unread_tree}
 use Rattle.umpire.specs.Refusals.{refusal_text}
 use Rattle.umpire.specs.declared.ending.Ending.{Ending}
 use Rattle.umpire.specs.declared.ending.Ending.TheVariants.{Refused, Faulted, WithoutMemory}
@@ -19,10 +20,14 @@ use Rattle.umpire.specs.declared.reading.Stop.TheVariants as stop
 
 -- ---- one file
 
--- the refusal of a deck's file, and of a tree's
+-- the refusal of a deck's file, of one whose deck is to be searched, and of a tree's
 abbrev pub RefusesDeck : List ℕ → Refusal → Scene → Scene → Type 0
 RefusesDeck name (refusal.Deck fault) s t = HasNoDeck name fault s t
 RefusesDeck name other s t = ⊥
+
+abbrev pub RefusesSearchedDeck : List ℕ → Refusal → Scene → Scene → Type 0
+RefusesSearchedDeck name (refusal.Deck fault) s t = HasNoSearchedDeck name fault s t
+RefusesSearchedDeck name other s t = ⊥
 
 abbrev pub RefusesTree : DeckValue → List ℕ → Refusal → Scene → Scene → Type 0
 RefusesTree d name (refusal.Tree fault) s t = (fault ≡ unread_tree) × HasNoTree d name s t
@@ -36,7 +41,7 @@ FileStopped name Refuses stop.Memory s t = ReadGivenUp name s t
 
 -- why a deck's bytes are not taken: a refusal, or want of memory
 abbrev pub IsTextRefusal : List ℕ → Refusal → Type 0
-IsTextRefusal bytes (refusal.Deck fault) = IsNoDeckText bytes fault
+IsTextRefusal bytes (refusal.Deck fault) = DeckFault bytes fault.line fault.fault
 IsTextRefusal bytes other = ⊥
 
 abbrev pub TextStopped : List ℕ → Stop → Type 0

@@ -13,6 +13,8 @@ pub enum Ending {
     Answered(Answer),
     /// The line of this verdict was written.
     Judged(Verdict),
+    /// The normal text of a deck was written.
+    Printed,
     /// The line of this refusal was written.
     Refused(Refusal),
     /// A file or the output failed.
@@ -28,6 +30,7 @@ impl Ending {
         match self {
             Ending::Answered(answer) => answer_status(answer.kind),
             Ending::Judged(verdict) => verdict_status(verdict),
+            Ending::Printed => Status::Optimal,
             Ending::Refused(refusal) => refusal_status(refusal),
             Ending::Faulted => Status::Fault,
             Ending::WithoutMemory => Status::Memory,
@@ -49,7 +52,7 @@ impl Ending {
             Ending::Answered(answer) => outcome.answer = Some(answer),
             Ending::Judged(verdict) => outcome.verdict = Some(verdict),
             Ending::Refused(refusal) => outcome.refusal = Some(refusal),
-            Ending::Faulted | Ending::WithoutMemory => {}
+            Ending::Printed | Ending::Faulted | Ending::WithoutMemory => {}
         }
         outcome
     }

@@ -2,9 +2,9 @@
 //!
 //! [`run`] takes the words of a command line, reads the files that they name, and writes one text.
 //! `solve DECK --tree FILE` solves a deck, writes the tree that proves the answer to the file, and then a
-//! report; `check DECK TREE` reads a deck and a tree and says whether the tree proves its answer. A
-//! caller may rest on this: a refusal is one line that names its cause, nothing
-//! is written before the text is known, and after a fault of the outside nothing more is called.
+//! report; `check DECK TREE` reads a deck and a tree and says whether the tree proves its answer; `print DECK`
+//! reads a deck and writes its normal text. A caller may rest on this: a refusal is one line that names its
+//! cause, nothing is written before the text is known, and after a fault of the outside nothing more is called.
 #![tactic(auto)]
 
 mod checker;

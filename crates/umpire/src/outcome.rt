@@ -12,7 +12,7 @@ use um_text::Unexpected;
 /// How a call ended. The number of a status, from 0 in this order, is the program's exit status.
 #[derive(Clone, Copy, PartialEq, Eq, Debug)]
 pub enum Status {
-    /// An optimal answer, or a verdict yes.
+    /// An optimal answer, a verdict yes, or a deck printed.
     Optimal,
     Infeasible,
     Unbounded,

@@ -5,10 +5,10 @@ ghost use Rattle.um_model.specs.AnswerValues.{plain_answer};
 ghost use Rattle.um_model.specs.Checkable.{IsCheckable};
 ghost use Rattle.um_mps.specs.DeckText.{DeckText};
 ghost use Rattle.um_search.specs.Conditions.{IsSearched};
-ghost use Rattle.umpire.specs.Findings.{HasDeck, HasTree};
+ghost use Rattle.umpire.specs.Findings.{HasDeck, HasSearchedDeck, HasTree};
 ghost use Rattle.umpire.specs.FirstAnswers.{IsFirstAnswer};
 ghost use Rattle.um_outside.specs.Scenes.{Idle};
-ghost use Rattle.umpire.specs.Stops.{FileStopped, RefusesDeck, RefusesTree, StopsFor, TextStopped, tree_stop};
+ghost use Rattle.umpire.specs.Stops.{FileStopped, RefusesDeck, RefusesSearchedDeck, RefusesTree, StopsFor, TextStopped, tree_stop};
 
 use crate::outcome::{Refusal, TreeFault, TreeWord};
 use crate::tree_text::read_first;
@@ -29,7 +29,7 @@ const MOST_DECK_BYTES: usize = 16_777_216;
 const MOST_TREE_BYTES: usize = 65_536;
 
 /// The refusal of a deck that is not searched yet.
-const UNREAD: ReadFault = ReadFault {
+const UNSEARCHED: ReadFault = ReadFault {
     line: 0,
     fault: Fault::NotYet,
 };
@@ -66,7 +66,6 @@ pub(crate) fn read_deck<D: Desk>(alloc: Global, desk: &mut D, name: &str) -> Res
     requires idle { (D.scene desk.old).mode ≡ Idle }
     requires going { (D.scene desk.old).stopped ≡ false }
     ensures ok { IfOk result (λ deck. HasDeck name.now deck (D.scene desk.old) (D.scene desk.new)) }
-    ensures searched { IfOk result IsSearched }
     ensures err { IfErr result (λ stop. FileStopped name.now (RefusesDeck name.now) stop (D.scene desk.old) (D.scene desk.new)) }
 {
     let bytes = match read_file(alloc, desk, name, MOST_DECK_BYTES) {
@@ -78,16 +77,29 @@ pub(crate) fn read_deck<D: Desk>(alloc: Global, desk: &mut D, name: &str) -> Res
     deck_of(alloc, bytes.as_slice())
 }
 
-/// The deck of a text, where it is one that is searched.
+/// The deck of a text.
 fn deck_of(alloc: Global, bytes: &[u8]) -> Result<Deck, Stop>
     ensures ok { IfOk result (DeckText bytes.now) }
-    ensures searched { IfOk result IsSearched }
     ensures err { IfErr result (TextStopped bytes.now) }
 {
     match read(alloc, bytes) {
-        Ok(deck) if is_searched(&deck) => Ok(deck),
-        Ok(_) => Err(Stop::Refused(Refusal::Deck(UNREAD))),
+        Ok(deck) => Ok(deck),
         Err(fault) => Err(deck_stop(fault)),
+    }
+}
+
+/// The deck that a file is the text of, where it is searched. Another deck is refused as `NotYet` at line 0.
+pub(crate) fn read_searched<D: Desk>(alloc: Global, desk: &mut D, name: &str) -> Result<Deck, Stop>
+    requires idle { (D.scene desk.old).mode ≡ Idle }
+    requires going { (D.scene desk.old).stopped ≡ false }
+    ensures ok { IfOk result (λ deck. HasSearchedDeck name.now deck (D.scene desk.old) (D.scene desk.new)) }
+    ensures searched { IfOk result IsSearched }
+    ensures err { IfErr result (λ stop. FileStopped name.now (RefusesSearchedDeck name.now) stop (D.scene desk.old) (D.scene desk.new)) }
+{
+    match read_deck(alloc, desk, name) {
+        Ok(deck) if is_searched(&deck) => Ok(deck),
+        Ok(_) => Err(Stop::Refused(Refusal::Deck(UNSEARCHED))),
+        Err(stop) => Err(stop),
     }
 }
 

@@ -1,10 +1,11 @@
-//! The command `check` over a desk and a sink in memory.
+//! The commands over a desk and a sink in memory.
 
 ghost use Rattle.std.specs.Prelude.{◌≡◌, ◌≤◌, false, IfOk};
 ghost use Rattle.um_outside.specs.Scenes.{Idle};
 ghost use Rattle.um_outside.specs.MemoryDesks.{scene_of};
 ghost use Rattle.um_outside.specs.MemorySinks.{told_of};
 
+mod printing;
 mod solving;
 mod texts;
 
@@ -55,7 +56,7 @@ fn sink_of(alloc: Global, piece: usize) -> Result<MemorySink, Memory>
     ensures { IfOk result (λ sink. (told_of sink).stopped ≡ false) }
 {
     let mut sink = MemorySink::new(alloc, piece);
-    sink.room(100)?;
+    sink.room(1_000)?;
     Ok(sink)
 }
 

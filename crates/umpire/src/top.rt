@@ -4,7 +4,7 @@ ghost use Rattle.std.specs.Prelude.{◌≡◌, false, map, string_bytes};
 ghost use Rattle.um_outside.specs.Scenes.{Idle};
 ghost use Rattle.umpire.specs.Runs.{Ran, RanAs};
 
-use crate::commands::{check, solve};
+use crate::commands::{check, print, solve};
 use crate::ending::Ending;
 use crate::outcome::{Outcome, Refusal, WordFault};
 use crate::saying::refuse;
@@ -34,6 +34,9 @@ fn call<D: Desk, O: Sink>(alloc: Global, words: &[String], desk: &mut D, out: &m
     }
     if let Some(files) = solve::files_of(words) {
         return solve::solve(alloc, &files, desk, out);
+    }
+    if let Some(deck) = print::file_of(words) {
+        return print::print(alloc, deck, desk, out);
     }
     refuse(alloc, out, Refusal::Words(WordFault::Line))
 }

@@ -11,7 +11,7 @@ ghost use Rattle.umpire.specs.FirstAnswers.{IsFirstAnswer};
 
 use crate::checker::Checker;
 use crate::ending::Ending;
-use crate::reading::{Stop, read_deck, read_tree};
+use crate::reading::{Stop, read_searched, read_tree};
 use crate::saying::{give_up, tell};
 use crate::words::is_file_name;
 use std::alloc::Global;
@@ -66,7 +66,7 @@ fn judge<D: Desk>(alloc: Global, desk: &mut D, files: &CheckFiles<'_>) -> Result
     ensures ok { IfOk result (λ verdict. HasJudged (names_of files.now) verdict (D.scene desk.old) (D.scene desk.new)) }
     ensures err { IfErr result (λ stop. CheckStopped (names_of files.now) stop (D.scene desk.old) (D.scene desk.new)) }
 {
-    let deck = read_deck(alloc, desk, files.deck)?;
+    let deck = read_searched(alloc, desk, files.deck)?;
     match read_tree(alloc, desk, &deck, files.tree) {
         Ok(answer) => verdict_on(alloc, &deck, &answer),
         Err(stop) => Err(stop),

@@ -10,7 +10,7 @@ ghost use Rattle.umpire.specs.SolveRuns.{solve_of, names_of, HasSolved, SolveRan
 ghost use Rattle.umpire.specs.Stops.{SaidOrCut};
 
 use crate::ending::Ending;
-use crate::reading::{Stop, read_deck};
+use crate::reading::{Stop, read_searched};
 use crate::saying::{give_up, say};
 use crate::words::is_file_name;
 use std::alloc::Global;
@@ -119,7 +119,7 @@ fn find<D: Desk>(alloc: Global, desk: &mut D, files: &SolveFiles<'_>) -> Result<
     ensures ok { IfOk result (λ found. HasSolved (names_of files.now) found.answer found.report.items (D.scene desk.old) (D.scene desk.new)) }
     ensures err { IfErr result (λ stop. SolveStopped (names_of files.now) stop (D.scene desk.old) (D.scene desk.new)) }
 {
-    let deck = read_deck(alloc, desk, files.deck)?;
+    let deck = read_searched(alloc, desk, files.deck)?;
     let answer = answer_to(alloc, &deck)?;
     let report = report(alloc, &deck, &answer)?;
     let text = write(alloc, &deck, &answer)?;

@@ -99,7 +99,7 @@ const ROW2: &[u8] =
 const YES: &str = "yes\n";
 
 /// A deck, what stands in it, what takes its place, and what is said of the deck with a tree for it.
-const CHANGED_DECKS: [(&[u8], &str, &str, &str); 15] = [
+const CHANGED_DECKS: [(&[u8], &str, &str, &str); 17] = [
     (DECK, "NAME ROW1\n", "* a deck\n\nNAME  ROW1 two\n", YES),
     (DECK, " RHS R1 4\n", "\tR1\t4.00\r\n", YES),
     (DECK, " LO BND x 0\n", "", YES),
@@ -132,7 +132,7 @@ const CHANGED_DECKS: [(&[u8], &str, &str, &str); 15] = [
         DECK,
         " UP BND x 3\n",
         " SC BND x 3\n",
-        "deck refused: NotYet at line 14\n",
+        "deck refused: NotYet at line 0\n",
     ),
     (
         ROW2,
@@ -140,11 +140,18 @@ const CHANGED_DECKS: [(&[u8], &str, &str, &str); 15] = [
         " L R1\n",
         "deck refused: NotYet at line 0\n",
     ),
+    (DECK, "ENDATA\n", "SOS\nARCS\nENDATA\n", YES),
     (
-        ROW2,
+        DECK,
         "ENDATA\n",
-        "SOS\nENDATA\n",
-        "deck refused: NotYet at line 18\n",
+        "SOS\n S1 s\n x 1\n y 2\nENDATA\n",
+        "deck refused: NotYet at line 0\n",
+    ),
+    (
+        DECK,
+        "ENDATA\n",
+        "ARCS\n Q COST x 1\nENDATA\n",
+        "deck refused: NotYet at line 0\n",
     ),
     (ROW2, "ENDATA\n", "", "deck refused: NoEnd at line 17\n"),
     (
