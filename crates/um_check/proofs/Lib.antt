@@ -1,0 +1,6 @@
+pub mod LeafSteps
+pub mod LeastBounds
+pub mod NodeSteps
+pub mod Objectives
+pub mod TurnSteps
+pub mod Verdicts

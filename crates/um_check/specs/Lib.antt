@@ -1,0 +1,4 @@
+pub mod Bounds
+pub mod Judging
+pub mod Turns
+pub mod Walks

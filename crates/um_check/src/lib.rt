@@ -1,0 +1,20 @@
+//! The checker: whether a tree proves its answer, and if not, why not.
+//!
+//! [`Checker::verdict`] goes over the nodes of a tree once, in preorder, with one box that it changes in
+//! place. A right branch that waits is found again by what is undone on the way back to it, so neither
+//! the depth of a tree nor its size asks for memory. Yes is said exactly where the answer is accepted,
+//! and else the first reason against it, with its node.
+//!
+//! For now of decks without arcs, and of answers that are not unbounded with a ray.
+#![tactic(auto)]
+
+mod bound;
+mod checker;
+mod fields;
+mod leaf;
+mod nodes;
+mod point;
+mod walk;
+
+pub use checker::Checker;
+pub use um_model::{Reason, Verdict};
