@@ -1,1 +1,6 @@
 pub mod Written
+mod LineCuts
+mod TextCuts
+mod Takes
+mod NumberWords
+mod LineSteps

@@ -6,9 +6,13 @@
 #![tactic(auto)]
 
 mod causes;
+mod fault;
 mod nodes;
+mod reading;
 mod words;
 mod writer;
 
+pub use fault::{TreeFault, TreeWord};
+pub use reading::read;
 pub use words::{cause_word, name_word};
 pub use writer::write;
