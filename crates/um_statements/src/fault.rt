@@ -66,7 +66,7 @@ pub enum Fault {
     EmptySet,
     #[error("TwiceWeight")]
     TwiceWeight,
-    /// The text is in a form that is not read yet.
+    /// The text states a deck that the call does not take yet.
     #[error("NotYet")]
     NotYet,
     #[error("no memory")]
