@@ -119,9 +119,10 @@ const SEMI: &str =
     "N z,G r,col x z:3 r:1,col y z:4 r:1,col w r:1,rhs r 1,SC x 5,LO x 2,UP y 3,SC w 5";
 /// An arc.
 const ARC: &str = "N z,L r,col x r:1,col y r:1,rhs r 3,UP x 2,UP y 2,arc x z -1";
-/// Two S2 sets whose weights are those of a row.
+/// Three plants, each with an S2 set of four columns that has its weights in a row, a product and an
+/// integer column. Columns 0 to 11 are the sets' members, 12 to 14 the products, 15 to 17 the integer columns.
 const PLANTS: &str =
-    "N z,E f,E g,col A0 z:0,col A1 f:20,col A2 f:50,col B0 z:0,col B1 g:30,col B2 g:60,UP A0 1,UP A1 1,UP A2 1,UP B0 1,UP B1 1,UP B2 1,S2 s f,mem A0,mem A1,mem A2,S2 t g,mem B0,mem B1,mem B2";
+    "N COST,E CONVA,E CONVB,E CONVC,E REFA,E REFB,E REFC,E DEM,L TRKA,L TRKB,L TRKC,L STEEL,L ENERGY,L FLEET,col A0 CONVA:1,col A1 COST:300 CONVA:1 REFA:20,col A2 COST:600 CONVA:1 REFA:50,col A3 COST:780 CONVA:1 REFA:80,col B0 CONVB:1,col B1 COST:390 CONVB:1 REFB:30,col B2 COST:690 CONVB:1 REFB:60,col B3 COST:900 CONVB:1 REFB:90,col C0 CONVC:1,col C1 COST:200 CONVC:1 REFC:10,col C2 COST:500 CONVC:1 REFC:40,col C3 COST:710 CONVC:1 REFC:70,col QA REFA:-1 DEM:1 TRKA:1 STEEL:1.25 ENERGY:2.75,col QB REFB:-1 DEM:1 TRKB:1 STEEL:0.5 ENERGY:3.5,col QC REFC:-1 DEM:1 TRKC:1 ENERGY:1.2,int TA COST:12.5 TRKA:-25 FLEET:1,int TB COST:12.5 TRKB:-25 FLEET:1,int TC COST:12.5 TRKC:-25 FLEET:1,rhs CONVA 1,rhs CONVB 1,rhs CONVC 1,rhs DEM 120,rhs STEEL 140,rhs ENERGY 400,rhs FLEET 8,rng STEEL 140,UP A0 1,UP A1 1,UP A2 1,UP A3 1,UP B0 1,UP B1 1,UP B2 1,UP B3 1,UP C0 1,UP C1 1,UP C2 1,UP C3 1,UP QA 80,UP QB 90,UP QC 70,UP TA 6,UP TB 6,UP TC 6,S2 SA REFA,mem A0,mem A1,mem A2,mem A3,S2 SB REFB,mem B0,mem B1,mem B2,mem B3,S2 SC REFC,mem C0,mem C1,mem C2,mem C3";
 /// Two S1 sets with common members, one of them an integer column.
 const SHARED: &str =
     "N z,col a z:1,int b z:1,col c z:1,UP a 1,UP b 1,UP c 1,S1 s,mem a 1,mem b 2,mem c 3,S1 t,mem b 1,mem a 2";
@@ -224,16 +225,83 @@ pub const NESTS: &[Nest] = &[
     ),
     (
         PLANTS,
-        " 0 1000, 0 1000, 0 1000, 0 1000, 0 1000, 0 1000, 0:2 0:2",
+        " 0 1000, 0 1000, 0 1000, 0 1000, 0 1000, 0 1000, 0 1000, 0 1000, 0 1000, 0 1000, 0 1000, 0 1000, 0 80000, 0 90000, 0 70000, 0 6000, 0 6000, 0 6000, 0:3 0:3 0:3",
         &[
-            ("two 2 1 left", ""),
+            ("int 15 -1 right", ""),
+            ("int 15 6 left", ""),
+            ("int 12 1 left", ""),
+            ("int 18 0 left", ""),
+            ("two 0 0 left", ""),
+            ("two 1 3 right", ""),
+            ("two 3 1 left", ""),
+            ("one 2 1 left", ""),
+            ("semi 15 0 left", ""),
+            ("cut 12 1000 left", ""),
+            (
+                "int 15 2 left",
+                " 0 1000, 0 1000, 0 1000, 0 1000, 0 1000, 0 1000, 0 1000, 0 1000, 0 1000, 0 1000, 0 1000, 0 1000, 0 80000, 0 90000, 0 70000, 0 2000, 0 6000, 0 6000, 0:3 0:3 0:3",
+            ),
+            ("int 15 2 right", ""),
+            (
+                "two 0 2 left",
+                " 0 1000, 0 1000, 0 1000, 0 0, 0 1000, 0 1000, 0 1000, 0 1000, 0 1000, 0 1000, 0 1000, 0 1000, 0 80000, 0 90000, 0 70000, 0 2000, 0 6000, 0 6000, 0:2 0:3 0:3",
+            ),
+            ("two 0 2 right", ""),
+            (
+                "two 1 1 right",
+                " 0 1000, 0 1000, 0 1000, 0 0, 0 0, 0 1000, 0 1000, 0 1000, 0 1000, 0 1000, 0 1000, 0 1000, 0 80000, 0 90000, 0 70000, 0 2000, 0 6000, 0 6000, 0:2 1:3 0:3",
+            ),
+            ("two 1 1 left", ""),
+            (
+                "two 2 2 right",
+                " 0 1000, 0 1000, 0 1000, 0 0, 0 0, 0 1000, 0 1000, 0 1000, 0 0, 0 0, 0 1000, 0 1000, 0 80000, 0 90000, 0 70000, 0 2000, 0 6000, 0 6000, 0:2 1:3 2:3",
+            ),
+            ("two 2 2 left", ""),
+            (
+                "int 15 0 right",
+                " 0 1000, 0 1000, 0 1000, 0 0, 0 0, 0 1000, 0 1000, 0 1000, 0 0, 0 0, 0 1000, 0 1000, 0 80000, 0 90000, 0 70000, 1000 2000, 0 6000, 0 6000, 0:2 1:3 2:3",
+            ),
+            ("int 15 0 left", ""),
+            (
+                "two 0 1 right",
+                " 0 0, 0 1000, 0 1000, 0 0, 0 0, 0 1000, 0 1000, 0 1000, 0 0, 0 0, 0 1000, 0 1000, 0 80000, 0 90000, 0 70000, 1000 2000, 0 6000, 0 6000, 1:2 1:3 2:3",
+            ),
+            (
+                "two 1 2 left",
+                " 0 0, 0 1000, 0 1000, 0 0, 0 0, 0 1000, 0 1000, 0 0, 0 0, 0 0, 0 1000, 0 1000, 0 80000, 0 90000, 0 70000, 1000 2000, 0 6000, 0 6000, 1:2 1:2 2:3",
+            ),
+            (
+                "int 15 1 right",
+                " 0 0, 0 1000, 0 1000, 0 0, 0 0, 0 1000, 0 1000, 0 0, 0 0, 0 0, 0 1000, 0 1000, 0 80000, 0 90000, 0 70000, 2000 2000, 0 6000, 0 6000, 1:2 1:2 2:3",
+            ),
+            ("int 15 1 left", ""),
+        ],
+    ),
+    (
+        PLANTS,
+        " 0 1000, 0 1000, 0 1000, 0 1000, 0 1000, 0 1000, 0 1000, 0 1000, 0 1000, 0 1000, 0 1000, 0 1000, 0 80000, 0 90000, 0 70000, 0 6000, 0 6000, 0 6000, 0:3 0:3 0:3",
+        &[
+            (
+                "two 2 1 left",
+                " 0 1000, 0 1000, 0 1000, 0 1000, 0 1000, 0 1000, 0 1000, 0 1000, 0 1000, 0 1000, 0 0, 0 0, 0 80000, 0 90000, 0 70000, 0 6000, 0 6000, 0 6000, 0:3 0:3 0:1",
+            ),
+            ("two 2 1 right", ""),
+            (
+                "int 15 5 right",
+                " 0 1000, 0 1000, 0 1000, 0 1000, 0 1000, 0 1000, 0 1000, 0 1000, 0 1000, 0 1000, 0 0, 0 0, 0 80000, 0 90000, 0 70000, 6000 6000, 0 6000, 0 6000, 0:3 0:3 0:1",
+            ),
+            ("int 15 5 left", ""),
             (
                 "two 0 1 left",
-                " 0 1000, 0 1000, 0 0, 0 1000, 0 1000, 0 1000, 0:1 0:2",
+                " 0 1000, 0 1000, 0 0, 0 0, 0 1000, 0 1000, 0 1000, 0 1000, 0 1000, 0 1000, 0 0, 0 0, 0 80000, 0 90000, 0 70000, 6000 6000, 0 6000, 0 6000, 0:1 0:3 0:1",
             ),
             (
                 "two 1 1 right",
-                " 0 1000, 0 1000, 0 0, 0 0, 0 1000, 0 1000, 0:1 1:2",
+                " 0 1000, 0 1000, 0 0, 0 0, 0 0, 0 1000, 0 1000, 0 1000, 0 1000, 0 1000, 0 0, 0 0, 0 80000, 0 90000, 0 70000, 6000 6000, 0 6000, 0 6000, 0:1 1:3 0:1",
+            ),
+            (
+                "two 1 2 right",
+                " 0 1000, 0 1000, 0 0, 0 0, 0 0, 0 0, 0 1000, 0 1000, 0 1000, 0 1000, 0 0, 0 0, 0 80000, 0 90000, 0 70000, 6000 6000, 0 6000, 0 6000, 0:1 2:3 0:1",
             ),
         ],
     ),
