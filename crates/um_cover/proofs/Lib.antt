@@ -1,0 +1,5 @@
+pub mod Ways
+pub mod Keeping
+pub mod Covering
+pub mod Handed
+pub mod Steps

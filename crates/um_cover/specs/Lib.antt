@@ -1,0 +1,5 @@
+pub mod Sites
+pub mod Nodes
+pub mod Laws
+pub mod Handing
+pub mod Descents

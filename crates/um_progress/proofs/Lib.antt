@@ -1,0 +1,11 @@
+pub mod Changes
+pub mod Numbering
+pub mod Acts
+pub mod Parting
+pub mod Ending
+pub mod Beginning
+pub mod Draining
+pub mod Stopping
+pub mod Settling
+pub mod KeyBounds
+pub mod Lineages

@@ -1,0 +1,92 @@
+-- What the next node may rest on, and what a vertex and its multipliers mean for the deck.
+use Rattle.std.specs.Prelude.{◌≡◌, ℕ, ◌<◌, ◌^◌, ℤ, pos, ◌<ℤ◌, length, All, Some}
+use Rattle.um_model.specs.Values.{DeckValue, ColumnValue, PointValue}
+use Rattle.um_model.specs.WellFormed.{HasTwoEnds}
+use Rattle.um_model.specs.Boxes.{BoxValue, root, ends_of}
+use Rattle.um_model.specs.Branches.{Fits, child}
+use Rattle.um_model.specs.Objective.{objective}
+use Rattle.um_model.specs.LeafValue.{leaf_value, leaf_bound, Empties}
+use Rattle.um_model.specs.Accepted.{SignHolds}
+use Rattle.um_model.specs.declared.answer.Why.{Why}
+use Rattle.um_model.specs.declared.branch.Branch.{Branch}
+use Rattle.um_model.specs.declared.branch.Side.{Side}
+use Rattle.um_model.specs.declared.leaf.Leaf.TheVariants.{Value}
+use Rattle.um_multipliers.specs.NormalForm.{HasRisingRows}
+use Rattle.um_multipliers.specs.PlainMultipliers.{MultipliersValue}
+use Rattle.um_multipliers.specs.Sizes.{AreBelow}
+use Rattle.um_deck.specs.Decks.{HasNoSetsOrArcs}
+use Rattle.um_lp.specs.States.{State}
+use Rattle.um_lp.specs.Boards.{IsBoard, IsStart}
+use Rattle.um_duality.specs.Laws.{HoldsOnBox}
+use Rattle.um_duality.specs.Relaxed.{StandsFor, deck_frame}
+use Rattle.um_relax.specs.Reboxings.{WantsFiniteEnds}
+use Rattle.um_solving.specs.Solvings.{IsRun, AtVertex, WithoutPoint, StoppedBy}
+
+-- ---- boxes with finite ends
+
+-- each column of the deck has two finite ends in the box
+abbrev pub HasEnds : DeckValue → BoxValue → Type 0
+HasEnds d b = (column : ℕ) → column < length d.columns → HasTwoEnds (ends_of d b column).low (ends_of d b column).high
+
+-- Where each column of the deck has two finite ends, it has them in the root box.
+abbrev pub RootLaw : Type 0
+RootLaw = (d : DeckValue) → All (λ (c : ColumnValue). HasTwoEnds c.low c.high) d.columns → HasEnds d (root d)
+
+-- The children of a branch that fits have two finite ends for each column, where the box has.
+abbrev pub ChildLaw : Type 0
+ChildLaw = (d : DeckValue) (b : BoxValue) (branch : Branch) (side : Side) → Fits d b branch → HasEnds d b → HasEnds d (child d b branch side)
+
+-- ---- the next node
+
+-- a node may be begun with the board in this state, on each box that has two finite ends for each column
+pub record MayBegin (d : DeckValue) (s : State) : Type 0 where
+  pub board : IsBoard s
+  pub stands : StandsFor d s
+  pub wants : (b : BoxValue) → HasEnds d b → WantsFiniteEnds d b s
+
+-- The first node may be begun with a board that starts.
+abbrev pub StartLaw : Type 0
+StartLaw = (d : DeckValue) (s : State) → IsStart (deck_frame d) s → IsBoard s → MayBegin d s
+
+-- The next node may be begun where a run on a node has led, at a vertex and without a point too.
+abbrev pub NextLaw : Type 0
+NextLaw = (d : DeckValue) (b : BoxValue) (before : State) (pivots : ℕ) (s : State) → StandsFor d before → IsRun d b before pivots s → MayBegin d s
+
+-- ---- what the ends of a node mean for the deck
+
+-- the vertex satisfies the rows and lies within the ends of the box; its multipliers are those of rows of the deck, the objective's is above 0, and their leaf value has an end, whose bound is the objective of the vertex
+pub record VertexSays (d : DeckValue) (b : BoxValue) (p : PointValue) (y : MultipliersValue) : Type 0 where
+  pub holds : HoldsOnBox d b p
+  pub positive : pos 0 <ℤ y.y0
+  pub rising : HasRisingRows (length d.rows) y.rows
+  pub value : ℤ
+  pub value_is : leaf_value d b y ≡ Value value
+  pub bound_is : leaf_bound d y.y0 value ≡ objective d p
+
+-- What a node says that ended at a vertex.
+abbrev pub VertexLaw : Type 0
+VertexLaw =
+    (d : DeckValue) (b : BoxValue) (before : State) (pivots : ℕ) (s : State) (p : PointValue) (y : MultipliersValue) → HasNoSetsOrArcs d → StandsFor d before
+    → AtVertex d b before pivots s p y → VertexSays d b p y
+
+-- the multipliers are those of rows of the deck and show that the box has no feasible point; their sign and leaf value are as an empty leaf asks
+pub record EmptySays (d : DeckValue) (b : BoxValue) (y : MultipliersValue) : Type 0 where
+  pub empties : Empties d b y
+  pub sign : SignHolds d b y
+  pub rising : HasRisingRows (length d.rows) y.rows
+
+-- What a node says that ended without a point.
+abbrev pub EmptyLaw : Type 0
+EmptyLaw = (d : DeckValue) (b : BoxValue) (before : State) (pivots : ℕ) (s : State) (y : MultipliersValue) → HasNoSetsOrArcs d → StandsFor d before → WithoutPoint d b before pivots s y → EmptySays d b y
+
+-- the multipliers are small and those of rows of the deck, and the objective's is above 0, as an open leaf asks
+pub record OwnSays (d : DeckValue) (y : MultipliersValue) : Type 0 where
+  pub positive : pos 0 <ℤ y.y0
+  pub below : AreBelow (2 ^ 40) y
+  pub rising : HasRisingRows (length d.rows) y.rows
+
+-- What a node's own multipliers say, where they were read before the search stopped at it.
+abbrev pub StoppedLaw : Type 0
+StoppedLaw =
+    (d : DeckValue) (b : BoxValue) (before : State) (pivots left number : ℕ) (cause : Why) (y : MultipliersValue) → StandsFor d before → StoppedBy d b before pivots left number cause (Some y)
+    → OwnSays d y

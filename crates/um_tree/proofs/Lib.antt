@@ -1,0 +1,5 @@
+pub mod Lists
+pub mod Orders
+pub mod Starts
+pub mod Writes
+pub mod Telling
