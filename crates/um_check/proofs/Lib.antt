@@ -1,0 +1,7 @@
+pub mod LeafSteps
+pub mod LeastBounds
+pub mod NodeSteps
+pub mod Objectives
+pub mod RaySums
+pub mod TurnSteps
+pub mod Verdicts

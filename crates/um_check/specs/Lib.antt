@@ -1,0 +1,5 @@
+pub mod Bounds
+pub mod Judging
+pub mod RayParts
+pub mod Turns
+pub mod Walks
