@@ -1,17 +1,3 @@
-pub mod OneLeaf
-pub mod Stepping
-pub mod Rising
-pub mod Lists
-pub mod Numerals
-pub mod NumeralValues
-pub mod WordEnds
-pub mod WordForms
-pub mod TextParts
-pub mod WhyTexts
-pub mod HeadTexts
-pub mod LeafTexts
-pub mod Fields
-pub mod WholeTexts
 pub mod Calls
 pub mod CheckCalls
 pub mod FileReads
@@ -19,3 +5,4 @@ pub mod Sayings
 pub mod Reportable
 pub mod SolveCalls
 pub mod PrintCalls
+mod CheckedColumns

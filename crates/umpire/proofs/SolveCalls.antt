@@ -10,11 +10,12 @@ use Rattle.um_model.specs.AnswerValues.{AnswerValue, plain_answer}
 use Rattle.um_model.specs.declared.answer.Answer.{Answer}
 use Rattle.umpire.specs.Calls.{MakesNoFile}
 use Rattle.umpire.specs.SolveRuns.{SolveNames, SolveRan, SolveDue, SolveFails, MakesTree, tree_file, SolveKeeps, SolveFaulted, HasSolved, SolveStopped}
+use Rattle.um_search.specs.Conditions.{IsSearched}
 use Rattle.umpire.specs.Findings.{HasSearchedDeck, Answers}
 use Rattle.umpire.specs.Refusals.{refusal_text}
 use Rattle.um_report.specs.Reports.{report_text}
 use Rattle.um_treetext.specs.TreeText.{tree_text}
-use Rattle.umpire.specs.Stops.{FileStopped, RefusesSearchedDeck, SaidOrCut, GaveUp}
+use Rattle.umpire.specs.Stops.{FileStopped, RefusesDeckOf, SaidOrCut, GaveUp}
 use Rattle.umpire.specs.declared.ending.Ending.{Ending}
 use Rattle.umpire.specs.declared.ending.Ending.TheVariants.{Answered, Refused, Faulted, WithoutMemory}
 use Rattle.umpire.specs.declared.outcome.Refusal.TheVariants.{Words, LowTolerance, Deck, Tree}
@@ -51,8 +52,8 @@ deck_keeps names s t h = record {
 }
 
 -- the deck was not taken
-pub deck_stopped : (names : SolveNames) (why : Stop) (s t : Scene) → FileStopped names.deck (RefusesSearchedDeck names.deck) why s t → SolveStopped names why s t
-deck_stopped names (stop.Refused (Deck f)) s t h = (h, deck_keeps names s t (no_deck_left names.deck f s t h))
+pub deck_stopped : (names : SolveNames) (why : Stop) (s t : Scene) → FileStopped names.deck (RefusesDeckOf IsSearched names.deck) why s t → SolveStopped names why s t
+deck_stopped names (stop.Refused (Deck f)) s t h = (h, deck_keeps names s t (no_deck_left IsSearched names.deck f s t h))
 deck_stopped names (stop.Refused (Tree f)) s t h = absurd h
 deck_stopped names (stop.Refused (Words w)) s t h = absurd h
 deck_stopped names (stop.Refused (LowTolerance least)) s t h = absurd h
@@ -65,12 +66,12 @@ deck_stopped names stop.Memory s t h = deck_keeps names s t h
 
 -- the deck was read, and no memory was found for its answer or a text
 pub deck_kept : (names : SolveNames) (d : DeckValue) (s t : Scene) → HasSearchedDeck names.deck d s t → SolveKeeps names s t
-deck_kept names d s t h = deck_keeps names s t (deck_left names.deck d s t h)
+deck_kept names d s t h = deck_keeps names s t (deck_left IsSearched names.deck d s t h)
 
 -- the deck was read and solved, and no tree asked for
 pub solved_alone : (name : List ℕ) (d : DeckValue) (a : Answer) (report : List ℕ) (s t : Scene) → HasSearchedDeck name d s t → Answers d (plain_answer a) → report ≡ report_text d (plain_answer a) → HasSolved (record { deck = name; tree = None }) a report s t
 solved_alone name d a report s t deck answers text =
-    let kept = deck_left name d s t deck in
+    let kept = deck_left IsSearched name d s t deck in
     record {
       solves = record { between = t; deck = d; deck_read = deck; answers = answers; tree = refl; report = text };
       well = kept.well;
@@ -82,7 +83,7 @@ solved_alone name d a report s t deck answers text =
 pub solved_with_tree : (name file : List ℕ) (d : DeckValue) (a : Answer) (report bytes : List ℕ) (s m t : Scene) → HasSearchedDeck name d s m → Answers d (plain_answer a) → report ≡ report_text d (plain_answer a) → bytes ≡ tree_text d (plain_answer a)
     → WroteWhole file bytes m t → HasSolved (record { deck = name; tree = Some file }) a report s t
 solved_with_tree name file d a report bytes s m t deck answers text tree wrote =
-    let kept = deck_left name d s m deck in
+    let kept = deck_left IsSearched name d s m deck in
     record {
       solves = record { between = m; deck = d; deck_read = deck; answers = answers; tree = subst (λ (x : List ℕ). WroteWhole file x m t) tree wrote; report = text };
       well = record { faults = omega (arith, kept.well.faults, wrote.well.faults); stopped = wrote.well.stopped ∙ kept.well.stopped };
@@ -93,7 +94,7 @@ solved_with_tree name file d a report bytes s m t deck answers text tree wrote =
 -- the tree could not be written
 pub unwritten_tree : (name file : List ℕ) (d : DeckValue) (a : AnswerValue) (s m t : Scene) → HasSearchedDeck name d s m → Answers d a → WriteFaulted file m t → SolveFaulted (record { deck = name; tree = Some file }) s t
 unwritten_tree name file d a s m t deck answers failed =
-    let kept = deck_left name d s m deck in
+    let kept = deck_left IsSearched name d s m deck in
     record {
       fails = inr (record { between = m; deck = d; answer = a; file = file; named = refl; deck_read = deck; answers = answers; fault = failed });
       files = only_after file s.holds m.holds t.holds kept.holds failed.holds;

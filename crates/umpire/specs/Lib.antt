@@ -6,13 +6,6 @@ pub mod CheckRuns
 pub mod SolveRuns
 pub mod PrintRuns
 pub mod Stops
+pub mod CheckedDecks
 pub mod Findings
 pub mod Runs
-pub mod FirstAnswers
-pub mod Checkers
-pub mod FirstTrees
-pub mod TreeReading
-pub mod WhyReading
-pub mod PartReading
-pub mod LeafReading
-pub mod FirstReading

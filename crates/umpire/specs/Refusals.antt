@@ -2,8 +2,8 @@
 use Rattle.std.specs.Prelude.{ℕ, List, [], ◌∷◌, ◌++◌, codes, decimal}
 use Rattle.um_statements.specs.declared.fault.Fault.{Fault}
 use Rattle.um_statements.specs.declared.fault.Fault.TheVariants as deck
-use Rattle.umpire.specs.declared.outcome.TreeWord.{TreeWord}
-use Rattle.umpire.specs.declared.outcome.TreeWord.TheVariants as tree
+use Rattle.um_treetext.specs.declared.fault.TreeWord.{TreeWord}
+use Rattle.um_treetext.specs.declared.fault.TreeWord.TheVariants as tree
 use Rattle.umpire.specs.declared.outcome.WordFault.TheVariants.{Line}
 use Rattle.umpire.specs.declared.outcome.Refusal.{Refusal}
 use Rattle.umpire.specs.declared.outcome.Refusal.TheVariants.{Words, LowTolerance, Deck, Tree}
@@ -46,7 +46,13 @@ deck_word deck.NotYet = codes "NotYet"
 deck_word deck.Memory = codes "Memory"
 
 abbrev pub tree_word : TreeWord → List ℕ
-tree_word tree.NotYet = codes "NotYet"
+tree_word tree.NoEnd = codes "NoEnd"
+tree_word tree.BadWord = codes "BadWord"
+tree_word tree.BadNumber = codes "BadNumber"
+tree_word tree.TooWide = codes "TooWide"
+tree_word tree.WrongDeck = codes "WrongDeck"
+tree_word tree.BadNode = codes "BadNode"
+tree_word tree.TooMany = codes "TooMany"
 tree_word tree.Memory = codes "Memory"
 
 -- what was refused, why, and for a file at which line

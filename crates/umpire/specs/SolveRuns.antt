@@ -8,7 +8,7 @@ use Rattle.um_model.specs.Values.{DeckValue}
 use Rattle.um_model.specs.AnswerValues.{AnswerValue, plain_answer}
 use Rattle.um_model.specs.declared.answer.Answer.{Answer}
 use Rattle.umpire.specs.Calls.{ComesTo, MakesNoFile, AsksInOrder}
-use Rattle.umpire.specs.Findings.{HasSearchedDeck, HasNoSearchedDeck, Answers}
+use Rattle.umpire.specs.Findings.{HasSearchedDeck, HasNoDeckOf, Answers}
 use Rattle.umpire.specs.Refusals.{refusal_text}
 use Rattle.um_report.specs.Reports.{report_text}
 use Rattle.um_treetext.specs.TreeText.{tree_text}
@@ -61,7 +61,7 @@ pub record Solves (names : SolveNames) (a : Answer) (text : List ℕ) (s t : Sce
 
 -- what was read before this refusal
 abbrev pub SolveRefuses : SolveNames → Refusal → Scene → Scene → Type 0
-SolveRefuses names (Deck fault) s t = HasNoSearchedDeck names.deck fault s t
+SolveRefuses names (Deck fault) s t = HasNoDeckOf IsSearched names.deck fault s t
 SolveRefuses names other s t = ⊥
 
 -- the report of the answer, or the line of a refusal

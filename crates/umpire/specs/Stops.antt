@@ -7,30 +7,31 @@ use Rattle.um_model.specs.Values.{DeckValue}
 use Rattle.um_statements.specs.declared.fault.Fault.TheVariants as deck
 use Rattle.um_mps.specs.declared.reader.ReadFault.{ReadFault}
 use Rattle.um_mps.specs.DeckText.{DeckFault}
-use Rattle.umpire.specs.Findings.{HasNoDeck, HasNoSearchedDeck, HasNoTree, unread_tree}
+use Rattle.um_treetext.specs.declared.fault.TreeFault.{TreeFault}
+use Rattle.um_treetext.specs.declared.fault.TreeWord.TheVariants as tree
+use Rattle.um_treetext.specs.Reading.{TreeFaultAt}
+use Rattle.umpire.specs.Findings.{HasNoDeck, HasNoDeckOf, HasNoTree}
 use Rattle.umpire.specs.Refusals.{refusal_text}
 use Rattle.umpire.specs.declared.ending.Ending.{Ending}
 use Rattle.umpire.specs.declared.ending.Ending.TheVariants.{Refused, Faulted, WithoutMemory}
 use Rattle.umpire.specs.declared.outcome.Refusal.{Refusal}
 use Rattle.umpire.specs.declared.outcome.Refusal.TheVariants as refusal
-use Rattle.umpire.specs.declared.outcome.TreeWord.{TreeWord}
-use Rattle.umpire.specs.declared.outcome.TreeWord.TheVariants as tree
 use Rattle.umpire.specs.declared.reading.Stop.{Stop}
 use Rattle.umpire.specs.declared.reading.Stop.TheVariants as stop
 
 -- ---- one file
 
--- the refusal of a deck's file, of one whose deck is to be searched, and of a tree's
+-- the refusal of a deck's file, of one whose deck a command is to take, and of a tree's
 abbrev pub RefusesDeck : List ℕ → Refusal → Scene → Scene → Type 0
 RefusesDeck name (refusal.Deck fault) s t = HasNoDeck name fault s t
 RefusesDeck name other s t = ⊥
 
-abbrev pub RefusesSearchedDeck : List ℕ → Refusal → Scene → Scene → Type 0
-RefusesSearchedDeck name (refusal.Deck fault) s t = HasNoSearchedDeck name fault s t
-RefusesSearchedDeck name other s t = ⊥
+abbrev pub RefusesDeckOf : (DeckValue → Type 0) → List ℕ → Refusal → Scene → Scene → Type 0
+RefusesDeckOf IsTaken name (refusal.Deck fault) s t = HasNoDeckOf IsTaken name fault s t
+RefusesDeckOf IsTaken name other s t = ⊥
 
 abbrev pub RefusesTree : DeckValue → List ℕ → Refusal → Scene → Scene → Type 0
-RefusesTree d name (refusal.Tree fault) s t = (fault ≡ unread_tree) × HasNoTree d name s t
+RefusesTree d name (refusal.Tree fault) s t = HasNoTree d name fault s t
 RefusesTree d name other s t = ⊥
 
 -- why the file of this name was not taken: a refusal, before which this was read; a fault; or want of memory
@@ -49,15 +50,26 @@ TextStopped bytes (stop.Refused r) = IsTextRefusal bytes r
 TextStopped bytes stop.Fault = ⊥
 TextStopped bytes stop.Memory = ⊤
 
--- a fault of a text as a cause to stop; want of memory is no refusal
+-- why a tree's bytes are not taken for the deck: a refusal, or want of memory
+abbrev pub IsTreeRefusal : DeckValue → List ℕ → Refusal → Type 0
+IsTreeRefusal d bytes (refusal.Tree fault) = TreeFaultAt d bytes fault.line fault.fault
+IsTreeRefusal d bytes other = ⊥
+
+abbrev pub TreeStopped : DeckValue → List ℕ → Stop → Type 0
+TreeStopped d bytes (stop.Refused r) = IsTreeRefusal d bytes r
+TreeStopped d bytes stop.Fault = ⊥
+TreeStopped d bytes stop.Memory = ⊤
+
+-- a fault of a deck's or a tree's text as a cause to stop; want of memory is no refusal
 abbrev pub StopsFor : ReadFault → Stop → Type 0
 StopsFor f (stop.Refused r) = (r ≡ refusal.Deck f) × (f.fault ≢ deck.Memory)
 StopsFor f stop.Fault = ⊥
 StopsFor f stop.Memory = f.fault ≡ deck.Memory
 
-abbrev pub tree_stop : TreeWord → Stop
-tree_stop tree.NotYet = stop.Refused (refusal.Tree unread_tree)
-tree_stop tree.Memory = stop.Memory
+abbrev pub StopsForTree : TreeFault → Stop → Type 0
+StopsForTree f (stop.Refused r) = (r ≡ refusal.Tree f) × (f.fault ≢ tree.Memory)
+StopsForTree f stop.Fault = ⊥
+StopsForTree f stop.Memory = f.fault ≡ tree.Memory
 
 -- ---- how a text is said
 

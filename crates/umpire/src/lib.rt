@@ -7,7 +7,7 @@
 //! cause, nothing is written before the text is known, and after a fault of the outside nothing more is called.
 #![tactic(auto)]
 
-mod checker;
+mod checked;
 mod commands;
 mod ending;
 mod outcome;
@@ -15,15 +15,14 @@ mod reading;
 mod refusals;
 mod saying;
 mod top;
-mod tree_text;
 mod words;
 
-pub use checker::Checker;
-pub use outcome::{Outcome, Refusal, Status, TreeFault, TreeWord, WordFault};
+pub use outcome::{Outcome, Refusal, Status, WordFault};
 pub use top::run;
 pub use um_model::{Reason, Verdict};
 pub use um_mps::ReadFault;
 pub use um_statements::Fault;
+pub use um_treetext::{TreeFault, TreeWord};
 
 #[cfg(test)]
 mod tests;

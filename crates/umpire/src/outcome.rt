@@ -6,8 +6,7 @@ ghost use Rattle.std.specs.Prelude.{◌≡◌};
 use thiserror::Error;
 use um_model::{Answer, Verdict};
 use um_mps::ReadFault;
-use um_num::Memory;
-use um_text::Unexpected;
+use um_treetext::TreeFault;
 
 /// How a call ended. The number of a status, from 0 in this order, is the program's exit status.
 #[derive(Clone, Copy, PartialEq, Eq, Debug)]
@@ -58,44 +57,6 @@ pub enum WordFault {
     Line,
 }
 
-/// Why a text is refused as a tree.
-#[derive(Clone, Copy, PartialEq, Eq, Debug, Error)]
-pub enum TreeWord {
-    /// The text is in a form that is not read yet.
-    #[error("NotYet")]
-    NotYet,
-    #[error("no memory")]
-    Memory,
-}
-
-impl From<Memory> for TreeWord {
-    ghost use Rattle.umpire.specs.declared.outcome.TreeWord.TheVariants as word;
-
-    ghost from_gives = { λ _ given. given ≡ word.Memory };
-
-    fn from(_memory: Memory) -> TreeWord {
-        TreeWord::Memory
-    }
-}
-
-impl From<Unexpected> for TreeWord {
-    ghost use Rattle.umpire.specs.declared.outcome.TreeWord.TheVariants as word;
-
-    ghost from_gives = { λ _ given. given ≡ word.NotYet };
-
-    fn from(_unexpected: Unexpected) -> TreeWord {
-        TreeWord::NotYet
-    }
-}
-
-/// Why a text is refused as a tree, and at which line, counted from 1. Line 0 is the whole file.
-#[derive(Clone, Copy, PartialEq, Eq, Debug, Error)]
-#[error("{fault} at line {line}")]
-pub struct TreeFault {
-    pub line: u32,
-    pub fault: TreeWord,
-}
-
 /// What was refused. Want of memory is no refusal.
 #[derive(Clone, Copy, PartialEq, Eq, Debug)]
 pub enum Refusal {
@@ -105,6 +66,8 @@ pub enum Refusal {
     /// The first rule that a deck's text breaks, and its line. Line 0 is the whole file: it is too
     /// long, it is empty, or its deck is one that is not solved and checked yet.
     Deck(ReadFault),
+    /// The first rule that a tree's text breaks, and its line. Line 0 is the whole file: it is too
+    /// long, or it has no whole line.
     Tree(TreeFault),
 }
 

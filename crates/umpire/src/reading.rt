@@ -5,13 +5,14 @@ ghost use Rattle.um_model.specs.AnswerValues.{plain_answer};
 ghost use Rattle.um_model.specs.Checkable.{IsCheckable};
 ghost use Rattle.um_mps.specs.DeckText.{DeckText};
 ghost use Rattle.um_search.specs.Conditions.{IsSearched};
-ghost use Rattle.umpire.specs.Findings.{HasDeck, HasSearchedDeck, HasTree};
-ghost use Rattle.umpire.specs.FirstAnswers.{IsFirstAnswer};
+ghost use Rattle.um_treetext.specs.Reading.{TreeText};
+ghost use Rattle.umpire.specs.CheckedDecks.{IsChecked};
+ghost use Rattle.umpire.specs.Findings.{HasCheckedDeck, HasDeck, HasSearchedDeck, HasTree};
 ghost use Rattle.um_outside.specs.Scenes.{Idle};
-ghost use Rattle.umpire.specs.Stops.{FileStopped, RefusesDeck, RefusesSearchedDeck, RefusesTree, StopsFor, TextStopped, tree_stop};
+ghost use Rattle.umpire.specs.Stops.{FileStopped, RefusesDeck, RefusesDeckOf, RefusesTree, StopsFor, StopsForTree, TextStopped, TreeStopped};
 
-use crate::outcome::{Refusal, TreeFault, TreeWord};
-use crate::tree_text::read_first;
+use crate::checked::is_checked;
+use crate::outcome::Refusal;
 use std::alloc::Global;
 use thiserror::Error;
 use um_deck::Deck;
@@ -21,23 +22,30 @@ use um_num::Memory;
 use um_outside::{Desk, FileFault, read_file};
 use um_search::is_searched;
 use um_statements::Fault;
+use um_treetext::{TreeFault, TreeWord};
 
 /// The most bytes of a deck.
 const MOST_DECK_BYTES: usize = 16_777_216;
 
 /// The most bytes of a tree.
-const MOST_TREE_BYTES: usize = 65_536;
+const MOST_TREE_BYTES: usize = 2_147_483_648;
 
-/// The refusal of a deck that is not searched yet.
-const UNSEARCHED: ReadFault = ReadFault {
+/// The refusal of a deck that a command does not take yet.
+const UNTAKEN: ReadFault = ReadFault {
     line: 0,
     fault: Fault::NotYet,
 };
 
 /// The refusal of a file that is longer than any deck.
-const TOO_LONG: ReadFault = ReadFault {
+const LONG_DECK: ReadFault = ReadFault {
     line: 0,
     fault: Fault::TooLong,
+};
+
+/// The refusal of a file that is longer than any tree.
+const LONG_TREE: TreeFault = TreeFault {
+    line: 0,
+    fault: TreeWord::TooMany,
 };
 
 /// Why a command comes to nothing.
@@ -71,7 +79,7 @@ pub(crate) fn read_deck<D: Desk>(alloc: Global, desk: &mut D, name: &str) -> Res
     let bytes = match read_file(alloc, desk, name, MOST_DECK_BYTES) {
         Ok(bytes) => bytes,
         Err(FileFault::Fault) => return Err(Stop::Fault),
-        Err(FileFault::TooLong) => return Err(Stop::Refused(Refusal::Deck(TOO_LONG))),
+        Err(FileFault::TooLong) => return Err(Stop::Refused(Refusal::Deck(LONG_DECK))),
         Err(FileFault::Memory) => return Err(Stop::Memory),
     };
     deck_of(alloc, bytes.as_slice())
@@ -94,17 +102,31 @@ pub(crate) fn read_searched<D: Desk>(alloc: Global, desk: &mut D, name: &str) ->
     requires going { (D.scene desk.old).stopped ≡ false }
     ensures ok { IfOk result (λ deck. HasSearchedDeck name.now deck (D.scene desk.old) (D.scene desk.new)) }
     ensures searched { IfOk result IsSearched }
-    ensures err { IfErr result (λ stop. FileStopped name.now (RefusesSearchedDeck name.now) stop (D.scene desk.old) (D.scene desk.new)) }
+    ensures err { IfErr result (λ stop. FileStopped name.now (RefusesDeckOf IsSearched name.now) stop (D.scene desk.old) (D.scene desk.new)) }
 {
     match read_deck(alloc, desk, name) {
         Ok(deck) if is_searched(&deck) => Ok(deck),
-        Ok(_) => Err(Stop::Refused(Refusal::Deck(UNSEARCHED))),
+        Ok(_) => Err(Stop::Refused(Refusal::Deck(UNTAKEN))),
         Err(stop) => Err(stop),
     }
 }
 
-/// The answer for the deck that a file is the text of. A file that is too long is in a form that is
-/// not read yet.
+/// The deck that a file is the text of, where its trees are checked. Another deck is refused as `NotYet` at line 0.
+pub(crate) fn read_checked<D: Desk>(alloc: Global, desk: &mut D, name: &str) -> Result<Deck, Stop>
+    requires idle { (D.scene desk.old).mode ≡ Idle }
+    requires going { (D.scene desk.old).stopped ≡ false }
+    ensures ok { IfOk result (λ deck. HasCheckedDeck name.now deck (D.scene desk.old) (D.scene desk.new)) }
+    ensures checked { IfOk result IsChecked }
+    ensures err { IfErr result (λ stop. FileStopped name.now (RefusesDeckOf IsChecked name.now) stop (D.scene desk.old) (D.scene desk.new)) }
+{
+    match read_deck(alloc, desk, name) {
+        Ok(deck) if is_checked(&deck) => Ok(deck),
+        Ok(_) => Err(Stop::Refused(Refusal::Deck(UNTAKEN))),
+        Err(stop) => Err(stop),
+    }
+}
+
+/// The answer for the deck that a file is the text of. A file that is too long is refused before it is read to its end.
 pub(crate) fn read_tree<D: Desk>(
     alloc: Global,
     desk: &mut D,
@@ -115,16 +137,24 @@ pub(crate) fn read_tree<D: Desk>(
     requires going { (D.scene desk.old).stopped ≡ false }
     ensures ok { IfOk result (λ answer. HasTree deck.now name.now (plain_answer answer) (D.scene desk.old) (D.scene desk.new)) }
     ensures checkable { IfOk result (λ answer. IsCheckable deck.now (plain_answer answer)) }
-    ensures first { IfOk result (λ answer. IsFirstAnswer (plain_answer answer)) }
     ensures err { IfErr result (λ stop. FileStopped name.now (RefusesTree deck.now name.now) stop (D.scene desk.old) (D.scene desk.new)) }
 {
     let bytes = match read_file(alloc, desk, name, MOST_TREE_BYTES) {
         Ok(bytes) => bytes,
         Err(FileFault::Fault) => return Err(Stop::Fault),
-        Err(FileFault::TooLong) => return Err(tree_stop(TreeWord::NotYet)),
+        Err(FileFault::TooLong) => return Err(Stop::Refused(Refusal::Tree(LONG_TREE))),
         Err(FileFault::Memory) => return Err(Stop::Memory),
     };
-    match read_first(alloc, deck, bytes.as_slice()) {
+    answer_of(alloc, deck, bytes.as_slice())
+}
+
+/// The answer of a tree's text.
+fn answer_of(alloc: Global, deck: &Deck, bytes: &[u8]) -> Result<Answer, Stop>
+    ensures ok { IfOk result (λ answer. TreeText deck.now bytes.now (plain_answer answer)) }
+    ensures checkable { IfOk result (λ answer. IsCheckable deck.now (plain_answer answer)) }
+    ensures err { IfErr result (TreeStopped deck.now bytes.now) }
+{
+    match um_treetext::read(alloc, deck, bytes) {
         Ok(answer) => Ok(answer),
         Err(fault) => Err(tree_stop(fault)),
     }
@@ -140,12 +170,12 @@ fn deck_stop(fault: ReadFault) -> Stop
     }
 }
 
-/// A fault of the whole file; want of memory is no refusal.
-fn tree_stop(fault: TreeWord) -> Stop
-    ensures { result ≡ tree_stop fault }
+/// Want of memory is no refusal.
+fn tree_stop(fault: TreeFault) -> Stop
+    ensures { StopsForTree fault result }
 {
-    match fault {
-        TreeWord::NotYet => Stop::Refused(Refusal::Tree(TreeFault { line: 0, fault })),
+    match fault.fault {
         TreeWord::Memory => Stop::Memory,
+        _ => Stop::Refused(Refusal::Tree(fault)),
     }
 }

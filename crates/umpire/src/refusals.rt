@@ -3,11 +3,12 @@
 ghost use Rattle.std.specs.Prelude.{◌≡◌, IfOk, string_bytes};
 ghost use Rattle.umpire.specs.Refusals.{refusal_text, deck_word, tree_word};
 
-use crate::outcome::{Refusal, TreeFault, TreeWord, WordFault};
+use crate::outcome::{Refusal, WordFault};
 use std::alloc::{AllocError, Global};
 use um_mps::ReadFault;
 use um_num::{List, Memory};
 use um_statements::Fault;
+use um_treetext::{TreeFault, TreeWord};
 
 /// The line of a refusal: what was refused, why, and for a file at which line.
 pub fn refusal_line(alloc: Global, refusal: &Refusal) -> Result<List<u8>, Memory>
@@ -76,7 +77,13 @@ fn tree_word(fault: TreeWord) -> &'static str
     ensures { result.now ≡ tree_word fault }
 {
     match fault {
-        TreeWord::NotYet => "NotYet",
+        TreeWord::NoEnd => "NoEnd",
+        TreeWord::BadWord => "BadWord",
+        TreeWord::BadNumber => "BadNumber",
+        TreeWord::TooWide => "TooWide",
+        TreeWord::WrongDeck => "WrongDeck",
+        TreeWord::BadNode => "BadNode",
+        TreeWord::TooMany => "TooMany",
         TreeWord::Memory => "Memory",
     }
 }

@@ -5,9 +5,11 @@ ghost use Rattle.um_outside.specs.Scenes.{Idle};
 ghost use Rattle.um_outside.specs.MemoryDesks.{scene_of};
 ghost use Rattle.um_outside.specs.MemorySinks.{told_of};
 
+mod checking;
 mod printing;
 mod solving;
 mod texts;
+mod trees;
 
 use crate::{Outcome, Refusal, Status, Verdict, WordFault, run};
 use std::alloc::Global;
@@ -75,177 +77,21 @@ fn says(rt: &impl Abort, told: &Told, status: Status, text: &[u8]) {
     assert_eq!(rt; told.outcome.status, status);
 }
 
-/// The tree of one leaf with these words.
-fn tree_of(
-    alloc: Global,
-    tolerance: &str,
-    objective: &str,
-    bound: &str,
-    point: &str,
-    leaf: &str,
-) -> Result<String, Fail> {
-    let head = "UMPIRE TREE 1\nDECK ROW1 1 2 0 0";
-    let text = format!(in alloc;
-        "{head}\nTOLERANCE {tolerance}\nANSWER optimal\nWHY none\nOBJECTIVE {objective}\nBOUND {bound}\nPOINT {point}\nRAY none\nNODES 1\n{leaf}\nEND\n"
-    )?;
-    Ok(text)
-}
+const YES: &str = "yes\n";
 
-#[test]
-fn verdicts(rt: HostRuntime) -> Result<(), Fail> {
-    let yes = Status::Optimal;
-    let no = Status::No;
-    for (tolerance, objective, bound, point, leaf, status, text) in [
-        ("0", "-6", "-6", "1 2 2", "1 1 bounded 1 0:-1", yes, "yes\n"),
-        ("0", "-6", "-6", "1 2 2", "- - bounded 1 0:-1", yes, "yes\n"),
-        ("0", "-6", "-6", "3 6 6", "1 1 bounded 2 0:-2", yes, "yes\n"),
-        (
-            "0",
-            "-6",
-            "-6",
-            "1 2 2",
-            "1 1 bounded 1 0:1",
-            no,
-            "no 0 Sign\n",
-        ),
-        (
-            "0",
-            "-6",
-            "-6",
-            "1 2 2",
-            "1 1 bounded 1",
-            no,
-            "no 0 Bound\n",
-        ),
-        (
-            "0",
-            "-6",
-            "-6",
-            "1 2 2",
-            "1 1 bounded 0 0:-1",
-            no,
-            "no 0 Bound\n",
-        ),
-        (
-            "0",
-            "-6",
-            "-6",
-            "1 2 2",
-            "1 1 bounded 1099511627776 0:-1",
-            no,
-            "no 0 Wide\n",
-        ),
-        (
-            "0",
-            "-6",
-            "-6",
-            "1 2 2",
-            "1 1 bounded 1 0:-1099511627776",
-            no,
-            "no 0 Wide\n",
-        ),
-        (
-            "0",
-            "-6",
-            "-6",
-            "1 3 2",
-            "1 1 bounded 1 0:-1",
-            no,
-            "no - Infeasible\n",
-        ),
-        (
-            "0",
-            "-6",
-            "-6",
-            "1 4 0",
-            "1 1 bounded 1 0:-1",
-            no,
-            "no - Infeasible\n",
-        ),
-        (
-            "0",
-            "-6",
-            "-6",
-            "68719476736 0 0",
-            "1 1 bounded 1 0:-1",
-            no,
-            "no - Wide\n",
-        ),
-        (
-            "0",
-            "-6",
-            "-6",
-            "1 68719476736 0",
-            "1 1 bounded 1 0:-1",
-            no,
-            "no - Wide\n",
-        ),
-        (
-            "0",
-            "-5",
-            "-6",
-            "1 2 2",
-            "1 1 bounded 1 0:-1",
-            no,
-            "no - Objective\n",
-        ),
-        (
-            "0",
-            "-11/2",
-            "-6",
-            "2 3 4",
-            "1 1 bounded 1 0:-1",
-            no,
-            "no 0 Bound\n",
-        ),
-        (
-            "0",
-            "-6",
-            "-5",
-            "1 2 2",
-            "1 1 bounded 1 0:-1",
-            no,
-            "no - BoundWord\n",
-        ),
-        (
-            "1",
-            "-6",
-            "-6",
-            "1 2 2",
-            "1 1 bounded 1 0:-1",
-            no,
-            "no - Tolerance\n",
-        ),
-    ] {
-        let tree = tree_of(rt.alloc(), tolerance, objective, bound, point, leaf)?;
-        let told = call(rt.alloc(), "check deck tree", DECK, tree.as_bytes())?;
-        says(&rt, &told, status, text.as_bytes());
+/// The status of a call of `check` that writes this line.
+fn status_of(line: &str) -> Status {
+    if line == YES {
+        Status::Optimal
+    } else if line.as_bytes().starts_with(b"no ") {
+        Status::No
+    } else {
+        Status::Refused
     }
-    Ok(())
 }
 
 #[test]
 fn refusals(rt: HostRuntime) -> Result<(), Fail> {
-    let check = "check deck tree";
-    // A tree that is cut anywhere, or too long, is refused by its name.
-    for most in 0..TREE.len() {
-        let told = call(rt.alloc(), check, DECK, &TREE[..most])?;
-        says(
-            &rt,
-            &told,
-            Status::Refused,
-            b"tree refused: NotYet at line 0\n",
-        );
-    }
-    let long = vec![in rt.alloc(); b' '; 65_537]?;
-    let told = call(rt.alloc(), check, DECK, long.as_slice())?;
-    says(
-        &rt,
-        &told,
-        Status::Refused,
-        b"tree refused: NotYet at line 0\n",
-    );
-
     // A deck is refused before the tree is looked for.
     let told = call(rt.alloc(), "check deck none", b"", TREE)?;
     says(
@@ -272,45 +118,6 @@ fn refusals(rt: HostRuntime) -> Result<(), Fail> {
         says(&rt, &told, Status::Words, b"words refused: Line\n");
         assert_eq!(&rt; told.outcome.refusal, Some(Refusal::Words(WordFault::Line)));
     }
-    Ok(())
-}
-
-/// The deck and the tree above, with a name of this length.
-fn named(alloc: Global, length: usize) -> Result<(String, String), Fail> {
-    let letters = vec![in alloc; b'A'; length]?;
-    let name = String::from_utf8_lossy(alloc, letters.as_slice())?;
-    let deck = String::from_utf8_lossy(alloc, &DECK[9..])?;
-    let tree = String::from_utf8_lossy(alloc, &TREE[23..])?;
-    Ok((
-        format!(in alloc; "NAME {name}{deck}")?,
-        format!(in alloc; "UMPIRE TREE 1\nDECK {name}{tree}")?,
-    ))
-}
-
-#[test]
-fn sizes(rt: HostRuntime) -> Result<(), Fail> {
-    // Trees of 65,536 bytes and of one more.
-    let (deck, tree) = named(rt.alloc(), 65398)?;
-    let told = call(
-        rt.alloc(),
-        "check deck tree",
-        deck.as_bytes(),
-        tree.as_bytes(),
-    )?;
-    says(&rt, &told, Status::Optimal, b"yes\n");
-    let (deck, tree) = named(rt.alloc(), 65399)?;
-    let told = call(
-        rt.alloc(),
-        "check deck tree",
-        deck.as_bytes(),
-        tree.as_bytes(),
-    )?;
-    says(
-        &rt,
-        &told,
-        Status::Refused,
-        b"tree refused: NotYet at line 0\n",
-    );
     Ok(())
 }
 

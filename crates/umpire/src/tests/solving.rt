@@ -12,7 +12,7 @@ const REPORT: &[u8] =
     b"Optimal\nobjective -6\nbound -6\ntolerance 0.000\nnodes 1\npivots 1\ncolumn x 2\ncolumn y 2\n";
 
 /// The rows and columns of `DECK` with a side of -1, so that no point satisfies the row.
-const NO_POINT: &[u8] =
+pub(super) const NO_POINT: &[u8] =
     b"NAME ROW1\nROWS\n N COST\n L LIM1\nCOLUMNS\n x COST -1\n x LIM1 1\n y COST -2\n y LIM1 1\nRHS\n RHS LIM1 -1\nBOUNDS\n LO BND x 0\n UP BND x 3\n LO BND y 0\n UP BND y 2\nENDATA\n";
 
 /// max 1.5x + 2y + 3.5; x + y in [1.5,4]; x >= 1; 0.25x = 0.5y; x in [0,3], y in [0,2].

@@ -1,8 +1,8 @@
-//! Decks of different shapes, each with the tree of its answer, and texts that are changed.
+//! Decks of different shapes, each with the tree of its answer, and decks that are changed.
 //!
 //! The decks and trees were worked out beforehand, by the same rules.
 
-use super::{DECK, TREE, call, says};
+use super::{DECK, TREE, YES, call, says, status_of};
 use crate::Status;
 use std::alloc::Global;
 use std::test::Fail;
@@ -96,8 +96,6 @@ pub(super) const DECKS: [(&str, &str); 20] = [
 const ROW2: &[u8] =
     b"NAME ROW2\nROWS\n N COST\n L R1\n L R2\nCOLUMNS\n M1 'MARKER' 'INTORG'\n x COST -5 R1 6\n x R2 1\n y COST -4 R1 4\n y R2 2\n M2 'MARKER' 'INTEND'\nRHS\n RHS R1 24 R2 6\nBOUNDS\n UP BND x 10\n UP BND y 10\nENDATA\n";
 
-const YES: &str = "yes\n";
-
 /// A deck, what stands in it, what takes its place, and what is said of the deck with a tree for it.
 const CHANGED_DECKS: [(&[u8], &str, &str, &str); 17] = [
     (DECK, "NAME ROW1\n", "* a deck\n\nNAME  ROW1 two\n", YES),
@@ -128,24 +126,19 @@ const CHANGED_DECKS: [(&[u8], &str, &str, &str); 17] = [
         " UP BND x 1e30\n",
         "deck refused: NotYet at line 0\n",
     ),
-    (
-        DECK,
-        " UP BND x 3\n",
-        " SC BND x 3\n",
-        "deck refused: NotYet at line 0\n",
-    ),
+    (DECK, " UP BND x 3\n", " SC BND x 3\n", YES),
     (
         ROW2,
         " L R1\n",
         " L R1\n",
-        "deck refused: NotYet at line 0\n",
+        "tree refused: WrongDeck at line 2\n",
     ),
     (DECK, "ENDATA\n", "SOS\nARCS\nENDATA\n", YES),
     (
         DECK,
         "ENDATA\n",
         "SOS\n S1 s\n x 1\n y 2\nENDATA\n",
-        "deck refused: NotYet at line 0\n",
+        "tree refused: WrongDeck at line 2\n",
     ),
     (
         DECK,
@@ -174,51 +167,6 @@ const CHANGED_DECKS: [(&[u8], &str, &str, &str); 17] = [
     ),
 ];
 
-/// What stands in the tree, and what takes its place.
-const CHANGED_TREES: [(&str, &str); 38] = [
-    ("TREE 1", "TREE 2"),
-    ("UMPIRE TREE", "UMPIRE  TREE"),
-    ("DECK ROW1 1", "DECK ROW2 1"),
-    ("DECK ROW1 1 2", "DECK ROW1 2 2"),
-    ("DECK ROW1 1 2", "DECK ROW1 01 2"),
-    ("TOLERANCE 0", "TOLERANCE -1"),
-    ("TOLERANCE 0", "TOLERANCE +0"),
-    ("TOLERANCE 0\n", ""),
-    ("optimal", "Optimal"),
-    ("WHY none", "WHY nodes"),
-    ("OBJECTIVE -6", "OBJECTIVE -12/2"),
-    ("OBJECTIVE -6", "OBJECTIVE -6/1"),
-    ("OBJECTIVE -6", "OBJECTIVE -6.0"),
-    ("OBJECTIVE -6", "OBJECTIVE -6e0"),
-    ("OBJECTIVE -6", "OBJECTIVE +6"),
-    ("BOUND -6", "BOUND none"),
-    ("BOUND -6", "BOUND -06"),
-    ("BOUND -6", "BOUND\t-6"),
-    ("POINT 1 2 2", "POINT 0 2 2"),
-    ("POINT 1 2 2", "POINT 1 2"),
-    ("POINT 1 2 2", "POINT 1 2 2 2"),
-    ("POINT 1 2 2", "POINT 1 2 2 "),
-    ("POINT 1 2 2\nRAY none\n", "RAY none\nPOINT 1 2 2\n"),
-    ("RAY none", "RAY 0 0"),
-    ("NODES 1", "NODES 2"),
-    ("1 1 bounded", "- 1 bounded"),
-    ("1 1 bounded", "1 1 Bounded"),
-    ("0:-1", "0:-1 0:-1"),
-    ("0:-1", "0:0"),
-    ("0:-1", "1:-1"),
-    ("0:-1", "0:-1:"),
-    ("0:-1", "0:-1\r"),
-    ("bounded 1", "bounded -1"),
-    ("bounded 1", "bounded 01"),
-    ("END\n", "END"),
-    ("END\n", "END\n\n"),
-    ("END\n", ""),
-    (
-        "1 1 bounded 1 0:-1\n",
-        "1 1 bounded 1 0:-1\n1 1 bounded 1 0:-1\n",
-    ),
-];
-
 #[test]
 fn shapes(rt: HostRuntime) -> Result<(), Fail> {
     for (deck, tree) in DECKS {
@@ -234,7 +182,7 @@ fn shapes(rt: HostRuntime) -> Result<(), Fail> {
 }
 
 /// The text with these bytes in the place of those.
-fn changed(alloc: Global, text: &[u8], old: &str, new: &str) -> Result<String, Fail> {
+pub(super) fn changed(alloc: Global, text: &[u8], old: &str, new: &str) -> Result<String, Fail> {
     let whole = String::from_utf8_lossy(alloc, text)?;
     match whole.split_once(old) {
         Some((front, rest)) => Ok(format!(in alloc; "{front}{new}{rest}")?),
@@ -247,22 +195,7 @@ fn changes(rt: HostRuntime) -> Result<(), Fail> {
     for (text, old, new, line) in CHANGED_DECKS {
         let deck = changed(rt.alloc(), text, old, new)?;
         let told = call(rt.alloc(), "check deck tree", deck.as_bytes(), TREE)?;
-        let status = if line == YES {
-            Status::Optimal
-        } else {
-            Status::Refused
-        };
-        says(&rt, &told, status, line.as_bytes());
-    }
-    for (old, new) in CHANGED_TREES {
-        let tree = changed(rt.alloc(), TREE, old, new)?;
-        let told = call(rt.alloc(), "check deck tree", DECK, tree.as_bytes())?;
-        says(
-            &rt,
-            &told,
-            Status::Refused,
-            b"tree refused: NotYet at line 0\n",
-        );
+        says(&rt, &told, status_of(line), line.as_bytes());
     }
     Ok(())
 }
