@@ -9,6 +9,7 @@ use Rattle.um_model.specs.AnswerValues.{AnswerValue}
 use Rattle.um_model.specs.declared.verdict.Verdict.{Verdict}
 use Rattle.umpire.specs.Calls.{ComesTo, MakesNoFile, AsksInOrder}
 use Rattle.um_treetext.specs.declared.fault.TreeFault.{TreeFault}
+use Rattle.umpire.specs.CheckedDecks.{IsChecked}
 use Rattle.umpire.specs.Findings.{HasCheckedDeck, HasTree, HasNoDeckOf, HasNoTree, IsFinding}
 use Rattle.umpire.specs.Refusals.{refusal_text}
 use Rattle.um_report.specs.Verdicts.{verdict_text}

@@ -7,6 +7,7 @@ use Rattle.um_outside.specs.WholeFiles.{ReadFaulted, WroteWhole, WriteFaulted}
 use Rattle.um_model.specs.Values.{DeckValue}
 use Rattle.um_model.specs.AnswerValues.{AnswerValue, plain_answer}
 use Rattle.um_model.specs.declared.answer.Answer.{Answer}
+use Rattle.um_search.specs.Conditions.{IsSearched}
 use Rattle.umpire.specs.Calls.{ComesTo, MakesNoFile, AsksInOrder}
 use Rattle.umpire.specs.Findings.{HasSearchedDeck, HasNoDeckOf, Answers}
 use Rattle.umpire.specs.Refusals.{refusal_text}
