@@ -11,7 +11,7 @@ mod script;
 mod shown;
 
 use bounds::BOUNDS;
-use boxes::{NESTS, deck_of, is_shown, steps_hold};
+use boxes::{NESTS, Nest, PLANT_NESTS, deck_of, is_shown, steps_hold};
 use calls::CALLS;
 use limits::LIMITS;
 use numbers::NUMBERS;
@@ -87,14 +87,30 @@ fn points_of_decks(rt: HostRuntime) -> Result<(), Fail> {
     Ok(())
 }
 
+/// Whether the root's box and the steps of a nest are as they should be.
+fn nest_holds(alloc: Global, nest: &Nest) -> Result<bool, Fault> {
+    let (script, root, steps) = *nest;
+    let deck = deck_of(alloc, script.as_bytes())?;
+    let mut node = NodeBox::root(alloc, &deck)?;
+    let root_holds = is_shown(alloc, &node, root.as_bytes())?;
+    let rest_holds = steps_hold(alloc, &mut node, steps)?;
+    Ok(root_holds && rest_holds)
+}
+
 #[test]
 fn nests_of_boxes(rt: HostRuntime) -> Result<(), Fail> {
-    for (script, root, steps) in NESTS {
-        let deck = deck_of(rt.alloc(), script.as_bytes()).expect(&rt, "a deck");
-        let mut node = NodeBox::root(rt.alloc(), &deck)?;
-        assert!(rt; is_shown(rt.alloc(), &node, root.as_bytes())?, "{root}");
-        let holds = steps_hold(rt.alloc(), &mut node, steps)?;
-        assert!(rt; holds, "{script}");
+    for nest in NESTS {
+        let holds = nest_holds(rt.alloc(), nest).expect(&rt, "a deck");
+        assert!(rt; holds, "{}", nest.0);
+    }
+    Ok(())
+}
+
+#[test]
+fn nests_of_plants(rt: HostRuntime) -> Result<(), Fail> {
+    for nest in PLANT_NESTS {
+        let holds = nest_holds(rt.alloc(), nest).expect(&rt, "a deck");
+        assert!(rt; holds, "{}", nest.0);
     }
     Ok(())
 }
