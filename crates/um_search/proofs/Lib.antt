@@ -7,3 +7,12 @@ pub mod Accepting
 pub mod Telling
 pub mod Stopping
 pub mod SearchedColumns
+pub mod KeysClose
+pub mod TreeBoxes
+pub mod AskedBranches
+pub mod ChildParts
+pub mod Takings
+pub mod Settled
+pub mod Goes
+pub mod Results
+pub mod Usables

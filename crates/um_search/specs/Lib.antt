@@ -1,4 +1,6 @@
 pub mod Answers
 pub mod Conditions
 pub mod Endings
+pub mod Goings
 pub mod Roots
+pub mod Steps

@@ -7,12 +7,17 @@
 //! is too large.
 #![tactic(auto)]
 
+mod acts;
 mod answers;
 mod budget;
+mod going;
 mod root;
+mod search;
 mod searched;
+mod vertices;
 
 pub use budget::Budget;
 pub use root::{solve, solve_on};
+pub use search::{Halt, Search};
 pub use searched::is_searched;
 pub use um_model::{Answer, AnswerKind, Tree, Why};
