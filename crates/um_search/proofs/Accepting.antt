@@ -26,9 +26,9 @@ use Rattle.um_duality.specs.Readings.{multipliers, slack_costs, vertex}
 use Rattle.um_duality.proofs.FeasibleVertex.{vertex-law, continuous-law}
 use Rattle.um_duality.proofs.StrongDuality.{strong-duality-law}
 use Rattle.um_duality.proofs.NoPoint.{farkas-law}
-use Rattle.um_search.specs.Conditions.{IsSearched}
+use Rattle.um_search.specs.Conditions.{IsLinear}
 use Rattle.um_search.specs.Roots.{IsRun, AtVertex, WithoutPoint}
-use Rattle.um_search.proofs.SearchedColumns.{each_continuous}
+use Rattle.um_search.proofs.LinearColumns.{each_continuous}
 use Rattle.um_search.proofs.RootBoxes.{root_not_void}
 use Rattle.um_search.proofs.Runs.{run_stands}
 
@@ -65,7 +65,7 @@ pub record Meets (d : DeckValue) (p : PointValue) (y : MultipliersValue) : Type 
   pub value_is : leaf_value d (root d) y ≡ Value value
   pub bound_is : leaf_bound d y.y0 value ≡ objective d p
 
-pub meets : (d : DeckValue) (pivots : ℕ) (p : PointValue) (y : MultipliersValue) → IsDeck d → IsSearched d → AtVertex d pivots p y → Meets d p y
+pub meets : (d : DeckValue) (pivots : ℕ) (p : PointValue) (y : MultipliersValue) → IsDeck d → IsLinear d → AtVertex d pivots p y → Meets d p y
 meets d pivots p y formed searched h =
     let on = on_box d pivots h.state searched.no_sets_or_arcs h.run in
     let feasible = continuous-law d (vertex h.state) searched.no_sets_or_arcs.sets (each_continuous d searched) (vertex-law d (root d) h.state on h.ended) in
@@ -78,7 +78,7 @@ meets d pivots p y formed searched h =
       bound_is = ap (λ (m : MultipliersValue). leaf_bound d m.y0 value) h.multipliers ∙ bound_is ∙ ap (objective d) (sym h.point);
     }
 
-module _ (d : DeckValue) (p : PointValue) (y : MultipliersValue) (solved : Option Solved) (formed : IsDeck d) (searched : IsSearched d) (m : Meets d p y) (point : IsSmallPoint p) (below : AreBelow (2 ^ 40) y) where
+module _ (d : DeckValue) (p : PointValue) (y : MultipliersValue) (solved : Option Solved) (formed : IsDeck d) (searched : IsLinear d) (m : Meets d p y) (point : IsSmallPoint p) (below : AreBelow (2 ^ 40) y) where
   abbrev w : Rational
   w = objective d p
 
@@ -124,7 +124,7 @@ small_point d p feasible small = record { den = feasible.den; den_size = small.d
 
 -- ---- an infeasible answer
 
-pub infeasible_accepted : (d : DeckValue) (y : MultipliersValue) (solved : Option Solved) → IsDeck d → IsSearched d → Empties d (root d) y → AreBelow (2 ^ 40) y
+pub infeasible_accepted : (d : DeckValue) (y : MultipliersValue) (solved : Option Solved) → IsDeck d → IsLinear d → Empties d (root d) y → AreBelow (2 ^ 40) y
     → IsAccepted d (record { kind = HasNone; why = None; tolerance = pos 0; objective = None; bound = None; point = None; ray = None; tree = record { solved = solved; what = Empty y } ∷ [] })
 infeasible_accepted d y solved formed searched empties below =
     let sign : SignHolds d (root d) y = record { y0 = (let h = empties.y0 in omega (arith, ints)); ended = subst IsEnded (sym empties.value_is) tt } in
@@ -148,5 +148,5 @@ infeasible_accepted d y solved formed searched empties below =
       ),
     )
 
-pub empties_of : (d : DeckValue) (pivots : ℕ) (y : MultipliersValue) → IsDeck d → IsSearched d → WithoutPoint d pivots y → Empties d (root d) y
+pub empties_of : (d : DeckValue) (pivots : ℕ) (y : MultipliersValue) → IsDeck d → IsLinear d → WithoutPoint d pivots y → Empties d (root d) y
 empties_of d pivots y formed searched h = farkas-law d (root d) h.state h.row y (on_box d pivots h.state searched.no_sets_or_arcs h.run) h.ended h.multipliers

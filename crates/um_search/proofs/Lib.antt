@@ -6,4 +6,12 @@ pub mod Prices
 pub mod Accepting
 pub mod Telling
 pub mod Stopping
+pub mod LinearColumns
 pub mod SearchedColumns
+pub mod Rising
+pub mod Checkables
+pub mod SpentPivots
+pub mod OpenLeaves
+pub mod FinalAnswers
+pub mod Begun
+pub mod RunEnds

@@ -23,7 +23,7 @@ use Rattle.um_lp.specs.States.{State}
 use Rattle.um_duality.specs.Readings.{multipliers}
 use Rattle.um_multipliers.specs.Sizes.{AreBelow}
 use Rattle.um_search.specs.Answers.{IsOneNode, IsOpenBy, IsAnswerOf, IsStoppedAnswer}
-use Rattle.um_search.specs.Conditions.{IsSearched}
+use Rattle.um_search.specs.Conditions.{IsLinear}
 use Rattle.um_search.specs.Roots.{IsRun, IsUnread, OwnMultipliers, VertexValues, FarkasMultipliers, StoppedBy, one_and_none}
 use Rattle.um_search.proofs.Accepting.{tolerance_holds, bound_of_one, positive_multipliers}
 use Rattle.um_search.proofs.Prices.{none_of, no_pairs}
@@ -75,7 +75,7 @@ open_usable d y h = record {
 abbrev pub stopped_answer : AnswerKind → Why → Option Rational → List NodeValue → AnswerValue
 stopped_answer k w bound tree = record { kind = k; why = Some w; tolerance = pos 0; objective = None; bound = bound; point = None; ray = None; tree = tree }
 
-module _ (d : DeckValue) (pivots most : ℕ) (y : MultipliersValue) (formed : IsDeck d) (searched : IsSearched d) where
+module _ (d : DeckValue) (pivots most : ℕ) (y : MultipliersValue) (formed : IsDeck d) (searched : IsLinear d) where
   abbrev leaf : List NodeValue
   leaf = one (first_of pivots) (OpenLeaf y)
 

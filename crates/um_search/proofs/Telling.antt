@@ -20,7 +20,7 @@ use Rattle.um_duality.specs.WholeMultiples.{whole_multiples}
 use Rattle.um_duality.proofs.Multiples.{multiples-length}
 use Rattle.um_duality.proofs.ReadNumbers.{costs-length}
 use Rattle.um_search.specs.Answers.{IsOneNode, IsBoundedBy, IsEmptyBy}
-use Rattle.um_search.specs.Conditions.{IsSearched}
+use Rattle.um_search.specs.Conditions.{IsLinear}
 use Rattle.um_search.specs.Roots.{IsRun, AtVertex, WithoutPoint}
 use Rattle.um_search.proofs.Prices.{rising_prices}
 use Rattle.um_search.proofs.Runs.{run_stands}
@@ -59,7 +59,7 @@ optimal_answer v p tree = record { kind = Optimal; why = None; tolerance = pos 0
 abbrev pub infeasible_answer : List NodeValue → AnswerValue
 infeasible_answer tree = record { kind = HasNone; why = None; tolerance = pos 0; objective = None; bound = None; point = None; ray = None; tree = tree }
 
-module _ (d : DeckValue) (pivots : ℕ) (y : MultipliersValue) (tree : List NodeValue) (formed : IsDeck d) (searched : IsSearched d) (below : AreBelow (2 ^ 40) y) where
+module _ (d : DeckValue) (pivots : ℕ) (y : MultipliersValue) (tree : List NodeValue) (formed : IsDeck d) (searched : IsLinear d) (below : AreBelow (2 ^ 40) y) where
   pub optimal_accepts : (p : PointValue) (v : Rational) → AtVertex d pivots p y → IsSmallPoint p → v ≡ objective d p → tree ≡ one (first_of pivots) (Bounded y) → IsAccepted d (optimal_answer v p tree)
   optimal_accepts p v at small value node =
       let m = meets d pivots p y formed searched at in

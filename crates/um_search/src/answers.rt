@@ -13,7 +13,7 @@ ghost use Rattle.um_multipliers.specs.PlainMultipliers.{plain_multipliers};
 ghost use Rattle.um_multipliers.specs.Sizes.{AreBelow};
 ghost use Rattle.um_bound.specs.Usable.{AreUsable};
 ghost use Rattle.um_search.specs.Answers.{TellsRun};
-ghost use Rattle.um_search.specs.Conditions.{IsSearched};
+ghost use Rattle.um_search.specs.Conditions.{IsLinear};
 ghost use Rattle.um_search.specs.Endings.{EndedAs};
 ghost use Rattle.um_search.specs.Roots.{AtVertex, WithoutPoint, StoppedBy};
 
@@ -38,7 +38,7 @@ pub(crate) fn answer_of(
     most: u64,
 ) -> Result<Answer, Memory>
     requires formed { IsDeckNow deck.now }
-    requires searched { IsSearched deck.now }
+    requires searched { IsLinear deck.now }
     requires root { root.now ≡ record { deck = deck.now; limits = root_of deck.now } }
     requires ending { EndedAs deck.now pivots most ending }
     requires within { pivots ≤ most }
@@ -64,7 +64,7 @@ fn optimal(
     most: u64,
 ) -> Result<Answer, Memory>
     requires formed { IsDeckNow deck.now }
-    requires searched { IsSearched deck.now }
+    requires searched { IsLinear deck.now }
     requires ending { AtVertex deck.now pivots (plain_point point) (plain_multipliers y) }
     requires point { IsSmallPoint (plain_point point) }
     requires multipliers { AreBelow (2 ^ 40) (plain_multipliers y) }
@@ -95,7 +95,7 @@ fn infeasible(
     most: u64,
 ) -> Result<Answer, Memory>
     requires formed { IsDeckNow deck.now }
-    requires searched { IsSearched deck.now }
+    requires searched { IsLinear deck.now }
     requires ending { WithoutPoint deck.now pivots (plain_multipliers y) }
     requires multipliers { AreBelow (2 ^ 40) (plain_multipliers y) }
     requires within { pivots ≤ most }
@@ -128,7 +128,7 @@ fn stopped(
     most: u64,
 ) -> Result<Answer, Memory>
     requires formed { IsDeckNow deck.now }
-    requires searched { IsSearched deck.now }
+    requires searched { IsLinear deck.now }
     requires root { root.now ≡ record { deck = deck.now; limits = root_of deck.now } }
     requires ending { StoppedBy deck.now pivots most why (plain_multipliers y) }
     requires within { pivots ≤ most }
@@ -153,7 +153,7 @@ fn stopped(
 /// The bound of the root's box under these multipliers; `None` where it has no end.
 fn bound_on(deck: &Deck, root: &NodeBox<'_>, y: &Multipliers) -> Option<Frac>
     requires formed { IsDeckNow deck.now }
-    requires searched { IsSearched deck.now }
+    requires searched { IsLinear deck.now }
     requires root { root.now ≡ record { deck = deck.now; limits = root_of deck.now } }
     requires usable { AreUsable (length deck.now.rows) (plain_multipliers y.now) }
     requires positive { pos 1 ≤ℤ y.now.y0 }

@@ -15,7 +15,7 @@ ghost use Rattle.um_model.specs.WellFormed.{IsDeck};
 ghost use Rattle.um_relax.specs.Relaxations.{IsRelaxationOf};
 ghost use Rattle.um_duality.specs.Relaxed.{deck_frame};
 ghost use Rattle.um_search.specs.Answers.{TellsRun};
-ghost use Rattle.um_search.specs.Conditions.{IsSearched, IsBudget};
+ghost use Rattle.um_search.specs.Conditions.{IsLinear, IsBudget};
 ghost use Rattle.um_search.specs.Endings.{EndedAs, RefusedAs};
 ghost use Rattle.um_search.specs.Roots.{IsReady, IsRun, one_and_none};
 
@@ -48,7 +48,7 @@ pub enum RootEnding {
 /// The answer is accepted by a checker of its tree, and so it is right. It stops early only where a
 /// step is due after all pivots of the budget, or where a number is too large.
 pub fn solve(alloc: Global, deck: &Deck, budget: Budget) -> Result<Answer, Memory>
-    requires searched { IsSearched deck.now }
+    requires searched { IsLinear deck.now }
     requires budget { IsBudget budget }
     ensures accepted { IfOk result (λ answer. IsAccepted deck.now (plain_answer answer)) }
     ensures right { IfOk result (λ answer. IsRight deck.now (plain_answer answer)) }
@@ -68,7 +68,7 @@ pub fn solve_on<B: Board>(
     board: &mut B,
     budget: Budget,
 ) -> Result<Answer, Memory>
-    requires searched { IsSearched deck.now }
+    requires searched { IsLinear deck.now }
     requires budget { IsBudget budget }
     requires starts { IsStart (deck_frame deck.now) (B.state board.old) }
     ensures accepted { IfOk result (λ answer. IsAccepted deck.now (plain_answer answer)) }
@@ -88,7 +88,7 @@ fn search<B: Board>(
     board: &mut B,
     budget: Budget,
 ) -> Result<Answer, Memory>
-    requires searched { IsSearched deck.now }
+    requires searched { IsLinear deck.now }
     requires budget { IsBudget budget }
     requires relaxed { IsRelaxationOf deck.now relaxation.old }
     requires frame { frame_of relaxation.old ≡ deck_frame deck.now }
@@ -121,7 +121,7 @@ fn search_root<B: Board>(
     left: &mut u64,
 ) -> Result<RootEnding, Memory>
     requires formed { IsDeck root.now.deck }
-    requires searched { IsSearched root.now.deck }
+    requires searched { IsLinear root.now.deck }
     requires root { root.now.limits ≡ root_of root.now.deck }
     requires relaxed { IsRelaxationOf root.now.deck relaxation.old }
     requires frame { frame_of relaxation.old ≡ deck_frame root.now.deck }

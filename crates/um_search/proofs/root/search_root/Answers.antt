@@ -1,7 +1,7 @@
 use Rattle.std.proofs.Common.{◌≡◌, ◌-◌, arith, refl, sym, subst, inl}
 use Rattle.um_model.specs.Boxes.{BoxValue, IsVoid}
 use Rattle.um_relax.specs.Reboxings.{WantsFiniteEnds, StoppedBefore}
-use Rattle.um_search.proofs.SearchedColumns.{each_bounded}
+use Rattle.um_search.proofs.LinearColumns.{each_bounded}
 use Rattle.um_search.proofs.Starts.{start_wants}
 use Rattle.um_search.proofs.Runs.{ready_of}
 use Rattle.um_search.proofs.RootBoxes.{root_not_void}
