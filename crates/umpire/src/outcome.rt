@@ -55,6 +55,12 @@ pub enum WordFault {
     /// They are no command.
     #[error("Line")]
     Line,
+    /// The number of nodes is no whole numeral from 1 to 100,000.
+    #[error("Nodes")]
+    Nodes,
+    /// The number of pivots is no whole numeral from 1 to 10,000,000.
+    #[error("Pivots")]
+    Pivots,
 }
 
 /// What was refused. Want of memory is no refusal.

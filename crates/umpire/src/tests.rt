@@ -6,6 +6,7 @@ ghost use Rattle.um_outside.specs.MemoryDesks.{scene_of};
 ghost use Rattle.um_outside.specs.MemorySinks.{told_of};
 
 mod checking;
+mod options;
 mod printing;
 mod solving;
 mod texts;
@@ -110,7 +111,6 @@ fn refusals(rt: HostRuntime) -> Result<(), Fail> {
         "solve deck tree",
         "solve deck --tree",
         "solve deck --tree -tree",
-        "solve deck --nodes tree",
         "check -deck tree",
         "check deck ",
     ] {

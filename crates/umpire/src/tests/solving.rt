@@ -8,7 +8,7 @@ use std::test::Fail;
 use um_num::List;
 use um_outside::MemorySink;
 
-const REPORT: &[u8] =
+pub(super) const REPORT: &[u8] =
     b"Optimal\nobjective -6\nbound -6\ntolerance 0.000\nnodes 1\npivots 1\ncolumn x 2\ncolumn y 2\n";
 
 /// The rows and columns of `DECK` with a side of -1, so that no point satisfies the row.
