@@ -11,8 +11,14 @@ mod answers;
 mod budget;
 mod root;
 mod searched;
+mod children;
+mod node_run;
+mod open_nodes;
+mod search;
+mod solving;
 
 pub use budget::Budget;
 pub use root::{solve, solve_on};
+pub use solving::solve_tree;
 pub use searched::is_searched;
 pub use um_model::{Answer, AnswerKind, Tree, Why};

@@ -23,5 +23,5 @@ fn are_searched(columns: &[Column]) -> bool
 fn is_searched_column(column: &Column) -> bool
     ensures { IsTrue result ↔ IsSearchedColumn (plain_column column.now) }
 {
-    column.kind == Kind::Continuous && column.low.is_some() && column.high.is_some()
+    (column.kind == Kind::Continuous || column.kind == Kind::Integer) && column.low.is_some() && column.high.is_some()
 }
