@@ -1,0 +1,3 @@
+pub mod Branchings
+pub mod Laws
+pub mod NewChildren

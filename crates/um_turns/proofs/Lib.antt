@@ -1,0 +1,10 @@
+pub mod Lists
+pub mod Chains
+pub mod Turning
+pub mod Waiting
+pub mod Bests
+pub mod Acting
+pub mod Going
+pub mod Violations
+pub mod Orders
+pub mod Closing

@@ -1,0 +1,5 @@
+pub mod Branching
+pub mod Turns
+pub mod Histories
+pub mod NextTurns
+pub mod Laws

@@ -1,0 +1,66 @@
+-- How a node was solved: one turn of a search on its one board.
+use Rattle.std.specs.Prelude.{◌≡◌, ℕ, Option, Some, None}
+use Rattle.um_multipliers.specs.PlainMultipliers.{MultipliersValue}
+use Rattle.um_model.specs.Values.{DeckValue, PointValue}
+use Rattle.um_model.specs.AnswerValues.{WhatValue, Split, Bounded, Empty, OpenLeaf}
+use Rattle.um_model.specs.Boxes.{BoxValue}
+use Rattle.um_model.specs.declared.answer.Why.{Why}
+use Rattle.um_model.specs.declared.answer.Why.TheVariants as why
+use Rattle.um_lp.specs.States.{State}
+use Rattle.um_solving.specs.Solvings.{AtVertex, WithoutPoint, StoppedBy}
+use Rattle.um_turns.specs.Branching.{IsBranchAt, AsksForNone}
+
+-- where the run of a node ended: at a vertex with the multipliers of its prices, without a point with multipliers of Farkas, or early for this cause, with the node's own multipliers where they were read
+pub data TurnEnd : Type 0 where
+  Reached : PointValue → MultipliersValue → TurnEnd
+  Emptied : MultipliersValue → TurnEnd
+  Halted : Why → Option MultipliersValue → TurnEnd
+
+-- the states of the board in which the node was begun and in which it ended, how many pivots were left at its beginning, the multipliers that it was handed, and its end
+pub record Turn : Type 0 where
+  pub before : State
+  pub after : State
+  pub left : ℕ
+  pub handed : MultipliersValue
+  pub end : TurnEnd
+
+-- a vertex is reached at which every integer column is whole, and the node is not closed there; its own multipliers are those of the vertex
+pub record AtGrid (d : DeckValue) (b : BoxValue) (t : Turn) (pivots number told : ℕ) (own : Option MultipliersValue) : Type 0 where
+  pub same : told ≡ number
+  pub point : PointValue
+  pub own_is : MultipliersValue
+  pub vertex : AtVertex d b t.before pivots t.after point own_is
+  pub none : AsksForNone d point
+  pub are : own ≡ Some own_is
+
+-- the cause for which a search stopped in this turn
+abbrev pub HaltHolds : DeckValue → BoxValue → Turn → ℕ → ℕ → Why → Option MultipliersValue → Type 0
+HaltHolds d b t pivots number (why.Grid told) own = AtGrid d b t pivots number told own
+HaltHolds d b t pivots number other own = StoppedBy d b t.before pivots t.left number other own
+
+-- the turn of this number, with so many pivots, on the box of its node
+abbrev pub EndHolds : DeckValue → BoxValue → Turn → ℕ → ℕ → TurnEnd → Type 0
+EndHolds d b t pivots number (Reached p y) = AtVertex d b t.before pivots t.after p y
+EndHolds d b t pivots number (Emptied y) = WithoutPoint d b t.before pivots t.after y
+EndHolds d b t pivots number (Halted cause own) = HaltHolds d b t pivots number cause own
+
+-- the multipliers of an open leaf: its own where they were read, else those that it was handed
+abbrev pub kept_multipliers : MultipliersValue → Option MultipliersValue → MultipliersValue
+kept_multipliers handed None = handed
+kept_multipliers handed (Some y) = y
+
+-- What became of a node whose run ended so. At a vertex it was closed with the multipliers of the vertex, or branched on the first integer column whose value is not whole, at the floor of that value; without a point it is an empty leaf; where the search stopped it is an open leaf
+abbrev pub Became : DeckValue → MultipliersValue → TurnEnd → WhatValue → Type 0
+Became d handed (Reached p y) (Split branch) = IsBranchAt d p branch
+Became d handed (Reached p y) (Bounded z) = z ≡ y
+Became d handed (Reached p y) other = ⊥
+Became d handed (Emptied y) (Empty z) = z ≡ y
+Became d handed (Emptied y) other = ⊥
+Became d handed (Halted cause own) (OpenLeaf z) = z ≡ kept_multipliers handed own
+Became d handed (Halted cause own) other = ⊥
+
+-- the search did not stop in this turn
+abbrev pub IsFinished : TurnEnd → Type 0
+IsFinished (Reached p y) = Unit {0}
+IsFinished (Emptied y) = Unit {0}
+IsFinished (Halted cause own) = ⊥
