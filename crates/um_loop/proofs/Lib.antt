@@ -1,0 +1,12 @@
+pub mod KeysClose
+pub mod TreeBoxes
+pub mod AskedBranches
+pub mod ChildParts
+pub mod Takings
+pub mod Rising
+pub mod Checkables
+pub mod Keepings
+pub mod Usables
+pub mod Results
+pub mod Settled
+pub mod Goes

@@ -1,0 +1,174 @@
+-- A node in hand that is closed or solved, and how the search goes on.
+use Rattle.std.proofs.Common.{◌≡◌, ℕ, suc, ◌+◌, ◌-◌, ◌<◌, ◌≤◌, ◌^◌, pos, ◌<ℤ◌, List, [], ◌∷◌, ◌++◌, length, Option, Some, None, refl, sym, ap, ◌∙◌, subst, arith, length-append}
+use Rattle.std.specs.Prelude.{IsSome}
+use Rattle.um_laws.specs.Rational.{Rational}
+use Rattle.um_multipliers.specs.PlainMultipliers.{MultipliersValue, plain_multipliers}
+use Rattle.um_multipliers.specs.Sizes.{AreBelow}
+use Rattle.um_model.specs.Values.{DeckValue, PointValue}
+use Rattle.um_model.specs.Boxes.{BoxValue}
+use Rattle.um_model.specs.Branches.{Fits, left as left_box, right as right_box}
+use Rattle.um_model.specs.LeafValue.{leaf_value}
+use Rattle.um_model.specs.AnswerValues.{NodeValue, WhatValue, Split, Bounded}
+use Rattle.um_model.specs.declared.branch.Branch.{Branch}
+use Rattle.um_model.specs.declared.tree.Solved.{Solved}
+use Rattle.um_lp.specs.States.{State}
+use Rattle.um_tree.specs.Growths.{origin_at, parted, settled}
+use Rattle.um_cover.specs.Nodes.{NodeIs, OpenIs}
+use Rattle.um_cover.specs.Sites.{box_at}
+use Rattle.um_nodes.specs.declared.open_nodes.OpenNode.{OpenNode}
+use Rattle.um_progress.specs.declared.incumbent.Incumbent.{Incumbent}
+use Rattle.um_progress.specs.Numbers.{Number}
+use Rattle.um_progress.specs.Waits.{IsFresh, KeyIs, WaitsIn}
+use Rattle.um_progress.specs.Searches.{objective_of, IsSearch, ChildIs, Settles}
+use Rattle.um_progress.proofs.Settling.{settles_search}
+use Rattle.um_progress.proofs.Parting.{part_act}
+use Rattle.um_turns.specs.Branching.{IsBranchAt}
+use Rattle.um_turns.specs.Turns.{Turn, TurnEnd, Reached, Halted, EndHolds, Became, IsFinished, kept_multipliers}
+use Rattle.um_turns.specs.Histories.{History, IsHanded, IsBest, left_behind}
+use Rattle.um_turns.specs.NextTurns.{IsNextTurn, AreUnder}
+use Rattle.um_turns.proofs.Chains.{state_more, left_more}
+use Rattle.um_turns.proofs.Lists.{every_more}
+use Rattle.um_turns.proofs.Turning.{settle_history, settle_turn, part_turn}
+use Rattle.um_turns.proofs.Waiting.{all_handed_more, part_handed}
+use Rattle.um_loop.specs.declared.search.Search.{Search}
+use Rattle.um_loop.specs.declared.search.Halt.{Halt}
+use Rattle.um_loop.specs.Goings.{IsGoing, HasTaken, HaltedAt}
+use Rattle.um_loop.specs.Steps.{IsClosing, HasClosed, HasOwn}
+use Rattle.um_loop.proofs.KeysClose.{key_closes, key_bound}
+
+module _ (d : DeckValue) (start : State) (most : ℕ) (taken : OpenNode) (s : Search) (board : State) (left : ℕ) (t : HasTaken d start most taken s board left) where
+  abbrev history : History
+  history = t.going.history
+
+  abbrev box : BoxValue
+  box = box_at d s.growth taken.node
+
+  abbrev handed : MultipliersValue
+  handed = plain_multipliers taken.y
+
+  -- ---- it is closed by its key, and gets no number
+  pub closed_goes : (bound : Rational) (after : Search) → IsClosing d s.incumbent taken.key bound → HasClosed s taken.node None handed bound after → IsGoing d start most None after board left
+  closed_goes bound after closing closed =
+      let node : NodeValue = record { solved = None; what = Bounded handed } in
+      let holds = key_closes d box handed taken.key t.waits.bounds t.waits.key s.incumbent bound closing in
+      let counts = key_bound d box handed taken.key t.waits.bounds t.waits.key s.incumbent bound closing in
+      subst (λ (x : Search). IsGoing d start most None x board left) (sym closed.after_is) (record {
+        history = history;
+        search = settles_search Turn d (pos 0) history history taken.node s.growth s.open s.incumbent s.least (Some closed.least) node t.going.search holds (bound, counts, closed.lesser) refl;
+        solved = t.going.solved;
+        told = settle_history d start most s.growth history taken.node t.waits.fresh.solved t.going.search.numbered t.going.told node;
+        finished = t.going.finished;
+        handed = t.going.handed;
+        best = t.going.best;
+        board_is = t.going.board_is;
+        left_is = t.going.left_is;
+        found = λ some. refl;
+      })
+
+  -- ---- it keeps its own multipliers
+  pub own_waits : (w : OpenNode) (y : MultipliersValue) → HasOwn d box taken.node y w → AreBelow (2 ^ 40) y → pos 0 <ℤ y.y0 → WaitsIn d s.growth w
+  own_waits w y own below positive =
+      let same : box ≡ box_at d s.growth w.node = ap (box_at d s.growth) (sym own.node_is) in
+      let placed : OpenIs d box y = record { full = t.waits.bounds.full; small = below; y0 = positive } in
+      record {
+        fresh = subst (IsFresh s.growth) (sym own.node_is) t.waits.fresh;
+        bounds = subst (λ (b : BoxValue). OpenIs d b (plain_multipliers w.y)) same (subst (OpenIs d box) (sym own.multipliers) placed);
+        key = subst (λ (b : BoxValue). KeyIs (leaf_value d b (plain_multipliers w.y)) w.y.y0 w.key) same (subst (λ (m : MultipliersValue). KeyIs (leaf_value d box m) m.y0 w.key) (sym own.multipliers) own.key_is);
+        size = own.key_size;
+      }
+
+  module _ (pivots : ℕ) (after : State) (end : TurnEnd) where
+    abbrev turn : Turn
+    turn = record { before = board; after = after; left = left; handed = handed; end = end }
+
+    abbrev number : Number Turn
+    number = record { id = taken.node; pivots = pivots; told = turn }
+
+    abbrev longer : History
+    longer = history ++ number ∷ []
+
+    abbrev counted : Solved
+    counted = record { number = suc (length history); pivots = pivots }
+
+    module _ (within : pivots ≤ left) (run : EndHolds d box turn pivots (suc (length history)) end) where
+      next : IsNextTurn d start most s.growth history taken.node number
+      next = record { at = refl; before = t.going.board_is; left = t.going.left_is; few = subst (λ (n : ℕ). pivots ≤ n) t.going.left_is within; run = run; handed = t.handed }
+
+      longer_is : s.solved + 1 ≡ length longer
+      longer_is = let c = t.going.solved in omega (arith, c, length-append history (number ∷ []))
+
+      rest_is : left - pivots ≡ left_behind most longer
+      rest_is = ap (λ (n : ℕ). n - pivots) t.going.left_is ∙ sym (left_more most history number)
+
+      -- ---- the search stops, and the node stays in hand
+      pub halts : (halt : Halt) (own : Option MultipliersValue) → end ≡ Halted halt.why own → halt.hand.node ≡ taken.node → halt.solved ≡ Some counted → s.solved < 100000 → WaitsIn d s.growth halt.hand → plain_multipliers halt.hand.y ≡ kept_multipliers handed own
+          → HaltedAt d start most (record s { solved = s.solved + 1 }) halt after (left - pivots)
+      halts halt own end_is node_is solved few waits kept = record {
+        history = history;
+        search = subst (λ (id : ℕ). IsSearch Turn d (pos 0) history (Some id) s.growth s.open s.incumbent s.least) (sym node_is) t.going.search;
+        told = t.going.told;
+        finished = t.going.finished;
+        handed = t.going.handed;
+        best = t.going.best;
+        found = t.going.found;
+        solved = let c = t.going.solved in omega (arith, c);
+        few = let c = t.going.solved in omega (arith, c, few);
+        turn = turn;
+        pivots = pivots;
+        own = own;
+        end_is = end_is;
+        number_is = solved;
+        run = subst (λ (id : ℕ). EndHolds d (box_at d s.growth id) turn pivots (suc (length history)) end) (sym node_is) run;
+        before_is = t.going.board_is;
+        left_is = t.going.left_is;
+        within = within;
+        handed_is = subst (λ (id : ℕ). IsHanded history (origin_at s.growth id) handed) (sym node_is) t.handed;
+        waits = waits;
+        kept = kept;
+        board_is = refl;
+        rest_is = refl;
+      }
+
+      -- ---- the search goes on
+      module _ (solved : Solved) (solved_is : solved ≡ counted) (best : Option Incumbent) (searching : IsSearch Turn d (pos 0) history (Some taken.node) s.growth s.open best s.least) (bests : IsBest d longer best) (finished : IsFinished end) where
+        -- as a leaf
+        pub leaf_goes : (what : WhatValue) (least : Option Rational) → NodeIs d (objective_of best) (pos 0) box what → Settles d box what s.least least → Became d handed end what → (IsSome best → IsSome least)
+            → IsGoing d start most None (record s { growth = settled s.growth taken.node (record { solved = Some solved; what = what }); incumbent = best; least = least; solved = s.solved + 1 }) after (left - pivots)
+        leaf_goes what least holds settles became found =
+            let node : NodeValue = record { solved = Some solved; what = what } in
+            record {
+              history = longer;
+              search = settles_search Turn d (pos 0) history longer taken.node s.growth s.open best s.least least node searching holds settles (number, refl, solved_is, refl);
+              solved = longer_is;
+              told = settle_turn d start most s.growth history taken.node t.waits.fresh.solved t.going.search.numbered t.going.told node number t.waits.fresh.inside next became;
+              finished = every_more (λ (n : Number Turn). IsFinished n.told.end) history number t.going.finished finished;
+              handed = all_handed_more s.growth history number s.open t.going.handed;
+              best = bests;
+              board_is = sym (state_more start history number);
+              left_is = rest_is;
+              found = found;
+            }
+
+        -- as a split
+        module _ (p : PointValue) (y : MultipliersValue) (end_is : end ≡ Reached p y) (branch : Branch) (fits : Fits d box branch) (asked : IsBranchAt d p branch) (few : s.solved < 100000) (found : IsSome best → IsSome s.least) where
+          module _ (l r : NodeValue) (more_left more_right : List OpenNode) (cl : ChildIs d (objective_of best) (pos 0) (left_box d box branch) (length s.growth.nodes) l more_left) (cr : ChildIs d (objective_of best) (pos 0) (right_box d box branch) (suc (length s.growth.nodes)) r more_right) (ul : AreUnder y more_left) (ur : AreUnder y more_right) where
+            became : Became d handed end (Split branch)
+            became = subst (λ (e : TurnEnd). Became d handed e (Split branch)) (sym end_is) asked
+
+            few_numbers : length history < 100000
+            few_numbers = let c = t.going.solved in omega (arith, c, few)
+
+            pub split_goes : IsGoing d start most None (record s { growth = parted s.growth taken.node (Some solved) branch l r; «open» = (s.open ++ more_left) ++ more_right; incumbent = best; solved = s.solved + 1 }) after (left - pivots)
+            split_goes = record {
+              history = longer;
+              search = subst (λ (x : Solved). IsSearch Turn d (pos 0) longer None (parted s.growth taken.node (Some x) branch l r) ((s.open ++ more_left) ++ more_right) best s.least) (sym solved_is)
+                  (part_act Turn d (pos 0) history taken.node s.growth s.open best s.least searching number refl branch fits l r more_left more_right cl cr few_numbers);
+              solved = longer_is;
+              told = part_turn d start most s.growth history taken.node t.waits.fresh.solved t.going.search.numbered t.going.told t.going.search.growth t.waits.fresh.inside (Some solved) branch l r number next became;
+              finished = every_more (λ (n : Number Turn). IsFinished n.told.end) history number t.going.finished finished;
+              handed = part_handed d s.growth history taken.node t.going.search.growth (Some solved) branch l r number refl p y end_is (left_box d box branch) (right_box d box branch) s.open more_left more_right cl.waits cr.waits ul ur t.going.search.waits t.going.handed;
+              best = bests;
+              board_is = sym (state_more start history number);
+              left_is = rest_is;
+              found = found;
+            }

@@ -1,0 +1,122 @@
+-- A search that goes on, or stopped early, with a history that no code keeps.
+use Rattle.std.specs.Prelude.{◌≡◌, ℕ, suc, ◌+◌, ◌-◌, ◌<◌, ◌≤◌, pos, ◌⊎◌, [], length, Option, Some, None, IsSome}
+use Rattle.um_multipliers.specs.PlainMultipliers.{MultipliersValue, plain_multipliers}
+use Rattle.um_model.specs.Values.{DeckValue}
+use Rattle.um_model.specs.declared.answer.Why.TheVariants as why
+use Rattle.um_lp.specs.States.{State}
+use Rattle.um_tree.specs.Growths.{origin_at}
+use Rattle.um_cover.specs.Sites.{box_at}
+use Rattle.um_nodes.specs.declared.open_nodes.OpenNode.{OpenNode}
+use Rattle.um_progress.specs.Waits.{WaitsIn}
+use Rattle.um_progress.specs.Searches.{IsSearch}
+use Rattle.um_solving.specs.Laws.{MayBegin}
+use Rattle.um_turns.specs.Turns.{Turn, Halted, EndHolds, kept_multipliers}
+use Rattle.um_turns.specs.Histories.{History, IsHistory, AreFinished, AreHanded, IsHanded, IsBest, state_behind, left_behind}
+use Rattle.um_loop.specs.declared.search.Search.{Search}
+use Rattle.um_loop.specs.declared.search.Halt.{Halt}
+
+-- how a search began: the state of its board, and how many pivots it had
+pub record Beginning : Type 0 where
+  pub start : State
+  pub most : ℕ
+
+-- A search of a deck with the tolerance 0, that began with a board in the state `start` and `most` pivots. `hand` is a node
+-- that was taken and is not settled yet.
+--   search: what holds of its tree, of what waits, and of the best point
+--   solved: each number is counted
+--   told: the turns hold; finished: the search stopped in none
+--   handed: what waits has the multipliers that it was handed
+--   best: the best point is the first of least objective among the feasible vertices
+--   board_is, left_is: the board is in the state, and as many pivots are left, as behind the last turn
+--   found: a point is there only with a least bound
+pub record IsGoing (d : DeckValue) (start : State) (most : ℕ) (hand : Option ℕ) (s : Search) (board : State) (left : ℕ) : Type 0 where
+  pub history : History
+  pub search : IsSearch Turn d (pos 0) history hand s.growth s.open s.incumbent s.least
+  pub solved : s.solved ≡ length history
+  pub told : IsHistory d start most s.growth history
+  pub finished : AreFinished history
+  pub handed : AreHanded s.growth history s.open
+  pub best : IsBest d history s.incumbent
+  pub board_is : board ≡ state_behind start history
+  pub left_is : left ≡ left_behind most history
+  pub found : IsSome s.incumbent → IsSome s.least
+
+-- an entry was taken: its node is in hand, with the multipliers that it was handed, and its key is theirs
+pub record HasTaken (d : DeckValue) (start : State) (most : ℕ) (taken : OpenNode) (s : Search) (board : State) (left : ℕ) : Type 0 where
+  pub going : IsGoing d start most (Some taken.node) s board left
+  pub waits : WaitsIn d s.growth taken
+  pub handed : IsHanded going.history (origin_at s.growth taken.node) (plain_multipliers taken.y)
+
+-- ---- an early stop
+
+-- all nodes of the budget are solved, and the one in hand got no number
+pub record HasSpent (d : DeckValue) (start : State) (most nodes : ℕ) (s : Search) (halt : Halt) (board : State) (left : ℕ) : Type 0 where
+  pub taken : HasTaken d start most halt.hand s board left
+  pub cause : halt.why ≡ why.Nodes
+  pub none : halt.solved ≡ None
+  pub all : s.solved ≡ nodes
+
+-- The search stopped in the last turn, on the node in hand, which is open in the tree and has no number there yet. The history is that of the turns before.
+--   search, told, finished, handed, best, found: as of a search that goes on, with the node in hand
+--   solved: the last turn is counted, too; few: it is one of the first 100,000
+--   turn, pivots, own: the last turn, its pivots, and the node's own multipliers where they were read
+--   end_is: it ended early, for the cause of the stop
+--   number_is: the node in hand got the next number, with the pivots
+--   run: the turn is that of the node in hand
+--   before_is, left_is, within: it began where the turn before ended, and its pivots were left
+--   handed_is: the node was handed these multipliers
+--   waits: the multipliers that the node keeps bound its box, and its key is theirs
+--   kept: they are its own where they were read, else those that it was handed
+--   board_is, rest_is: the board is in the state, and as many pivots are left, as behind the last turn
+pub record HaltedAt (d : DeckValue) (start : State) (most : ℕ) (s : Search) (halt : Halt) (board : State) (rest : ℕ) : Type 0 where
+  pub history : History
+  pub search : IsSearch Turn d (pos 0) history (Some halt.hand.node) s.growth s.open s.incumbent s.least
+  pub told : IsHistory d start most s.growth history
+  pub finished : AreFinished history
+  pub handed : AreHanded s.growth history s.open
+  pub best : IsBest d history s.incumbent
+  pub found : IsSome s.incumbent → IsSome s.least
+  pub solved : s.solved ≡ suc (length history)
+  pub few : length history < 100000
+  pub turn : Turn
+  pub pivots : ℕ
+  pub own : Option MultipliersValue
+  pub end_is : turn.end ≡ Halted halt.why own
+  pub number_is : halt.solved ≡ Some (record { number = suc (length history); pivots = pivots })
+  pub run : EndHolds d (box_at d s.growth halt.hand.node) turn pivots (suc (length history)) turn.end
+  pub before_is : turn.before ≡ state_behind start history
+  pub left_is : turn.left ≡ left_behind most history
+  pub within : pivots ≤ turn.left
+  pub handed_is : IsHanded history (origin_at s.growth halt.hand.node) turn.handed
+  pub waits : WaitsIn d s.growth halt.hand
+  pub kept : plain_multipliers halt.hand.y ≡ kept_multipliers turn.handed own
+  pub board_is : board ≡ turn.after
+  pub rest_is : rest ≡ turn.left - pivots
+
+-- the search stopped at the budget of nodes, or in a turn
+abbrev pub HasStopped : DeckValue → State → ℕ → ℕ → Search → Halt → State → ℕ → Type 0
+HasStopped d start most nodes s halt board left = HasSpent d start most nodes s halt board left ⊎ HaltedAt d start most s halt board left
+
+-- ---- a run of the loop
+
+-- nothing waits
+pub record RanOut (d : DeckValue) (start : State) (most : ℕ) (s : Search) (board : State) (left : ℕ) : Type 0 where
+  pub going : IsGoing d start most None s board left
+  pub none : s.open ≡ []
+
+-- where a run ended: nothing waits, or it stopped early
+abbrev pub HasRun : DeckValue → State → ℕ → ℕ → Option Halt → Search → State → ℕ → Type 0
+HasRun d start most nodes None s board left = RanOut d start most s board left
+HasRun d start most nodes (Some halt) s board left = HasStopped d start most nodes s halt board left
+
+-- a number was solved, at most two nodes more wait, and the next node may be begun
+pub record WentOn (d : DeckValue) (start : State) (most : ℕ) (before after : Search) (board : State) (left : ℕ) : Type 0 where
+  pub going : IsGoing d start most None after board left
+  pub solved : after.solved ≡ before.solved + 1
+  pub waiting : length after.open ≤ length before.open + 2
+  pub begins : MayBegin d board
+
+-- where the solving of a node led: the search goes on, or it stopped in this turn
+abbrev pub GoesOn : DeckValue → State → ℕ → Search → Option Halt → Search → State → ℕ → Type 0
+GoesOn d start most before None after board left = WentOn d start most before after board left
+GoesOn d start most before (Some halt) after board left = HaltedAt d start most after halt board left

@@ -1,0 +1,3 @@
+pub mod Checkables
+pub mod Goings
+pub mod Steps

@@ -1,0 +1,186 @@
+-- What each act changes of a search.
+use Rattle.std.specs.Prelude.{◌≡◌, ◌≢◌, ℕ, suc, ◌<◌, ◌^◌, ℤ, pos, unsigned_abs, ◌⊎◌, List, ◌++◌, length, Option, Some, None, IsNone, IsSomeAnd, IfSome, option_map}
+use Rattle.um_laws.specs.Rational.{Rational}
+use Rattle.um_multipliers.specs.PlainMultipliers.{MultipliersValue, plain_multipliers}
+use Rattle.um_model.specs.Values.{DeckValue, PointValue, plain_point}
+use Rattle.um_model.specs.Feasible.{Feasible}
+use Rattle.um_model.specs.Objective.{objective}
+use Rattle.um_model.specs.LeafValue.{leaf_value, leaf_bound, Reaches}
+use Rattle.um_model.specs.Accepted.{IsAtMost, IsSmallPoint}
+use Rattle.um_model.specs.Boxes.{BoxValue}
+use Rattle.um_model.specs.Branches.{Fits, left, right}
+use Rattle.um_model.specs.AnswerValues.{NodeValue, Bounded, Empty}
+use Rattle.um_model.specs.declared.answer.Why.{Why}
+use Rattle.um_model.specs.declared.answer.Why.TheVariants as why
+use Rattle.um_multipliers.specs.Sizes.{AreBelow}
+use Rattle.um_solving.specs.Laws.{VertexSays, EmptySays, OwnSays}
+use Rattle.um_solving.specs.declared.node.NodeEnd.{NodeEnd}
+use Rattle.um_solving.specs.declared.node.NodeEnd.TheVariants as end
+use Rattle.um_model.specs.declared.branch.Branch.{Branch}
+use Rattle.um_model.specs.declared.tree.Solved.{Solved}
+use Rattle.um_tree.specs.Growths.{parted, settled}
+use Rattle.um_nodes.specs.declared.open_nodes.Key.{Key}
+use Rattle.um_nodes.specs.declared.open_nodes.OpenNode.{OpenNode}
+use Rattle.um_progress.specs.declared.incumbent.Incumbent.{Incumbent}
+use Rattle.um_progress.specs.Waits.{KeyIs}
+use Rattle.um_progress.specs.Searches.{objective_of, IsLesser, ChildIs}
+use Rattle.um_children.specs.NewChildren.{IsNewNode}
+use Rattle.um_turns.specs.Branching.{IsBranchAt, AsksForNone}
+use Rattle.um_turns.specs.NextTurns.{AreUnder}
+use Rattle.um_loop.specs.declared.search.Search.{Search}
+use Rattle.um_loop.specs.declared.search.Halt.{Halt}
+
+-- ---- the best point
+
+-- the objective is below that of the best point so far, if there is one
+abbrev pub IsBelowBest : Rational → Option Incumbent → Type 0
+IsBelowBest x best = IfSome (objective_of best) (λ v. ¬ IsAtMost v x)
+
+-- the point is feasible, and below the best so far; with its objective it is the best then
+pub record IsNewBest (d : DeckValue) (p : PointValue) (old new : Option Incumbent) : Type 0 where
+  pub feasible : Feasible d p
+  pub best : Incumbent
+  pub new_is : new ≡ Some best
+  pub point_is : plain_point best.point ≡ p
+  pub objective_is : best.objective ≡ objective d p
+  pub below : IsBelowBest best.objective old
+
+-- the best so far stays, and the point is not feasible or not below it
+pub record IsOldBest (d : DeckValue) (p : PointValue) (old new : Option Incumbent) : Type 0 where
+  pub same : new ≡ old
+  pub above : Feasible d p → IsSomeAnd (objective_of old) (λ v. IsAtMost v (objective d p))
+
+-- the best of the best point so far and this point; of equal ones the older stays
+abbrev pub IsBestOf : DeckValue → PointValue → Option Incumbent → Option Incumbent → Type 0
+IsBestOf d p old new = IsNewBest d p old new ⊎ IsOldBest d p old new
+
+-- ---- keys
+
+-- the key has a bound, which is this one, and closes a node at the best point
+pub record IsClosing (d : DeckValue) (best : Option Incumbent) (k : Key) (bound : Rational) : Type 0 where
+  pub some : k.y0 ≢ pos 0
+  pub reaches : IsSomeAnd (objective_of best) (λ v. Reaches d k.y0 k.value v (pos 0))
+  pub bound_is : bound ≡ leaf_bound d k.y0 k.value
+
+-- the key closes no node at the best point
+abbrev pub IsNotClosing : DeckValue → Option Incumbent → Key → Type 0
+IsNotClosing d best k = (bound : Rational) → ¬ IsClosing d best k bound
+
+-- ---- the tree
+
+-- the search, but a node is closed by these multipliers, and this is the least bound
+abbrev pub closed_search : Search → ℕ → Option Solved → MultipliersValue → Rational → Search
+closed_search s id solved y least = record s { growth = settled s.growth id (record { solved = solved; what = Bounded y }); least = Some least }
+
+-- a node became closed by these multipliers, whose bound is counted
+pub record HasClosed (before : Search) (id : ℕ) (solved : Option Solved) (y : MultipliersValue) (bound : Rational) (after : Search) : Type 0 where
+  pub least : Rational
+  pub lesser : IsLesser before.least bound (Some least)
+  pub after_is : after ≡ closed_search before id solved y least
+
+-- the search, but a node is an empty leaf
+abbrev pub emptied_search : Search → ℕ → Solved → MultipliersValue → Search
+emptied_search s id solved y = record s { growth = settled s.growth id (record { solved = Some solved; what = Empty y }) }
+
+-- the search, but a node is a split into these children, and these entries wait for the first and for the second
+abbrev pub branched_search : Search → ℕ → Solved → Branch → NodeValue → NodeValue → List OpenNode → List OpenNode → Search
+branched_search s id solved branch first second first_more second_more = record s { growth = parted s.growth id (Some solved) branch first second; «open» = (s.open ++ first_more) ++ second_more }
+
+-- a node became a split, and the entries of its open children wait, under these multipliers; a child stands void or under 1 and none in the tree
+pub record HasBranched (d : DeckValue) (b : BoxValue) (before : Search) (id : ℕ) (solved : Solved) (branch : Branch) (y : MultipliersValue) (after : Search) : Type 0 where
+  pub first : NodeValue
+  pub second : NodeValue
+  pub first_more : List OpenNode
+  pub second_more : List OpenNode
+  pub first_is : (incumbent : Option Rational) (tolerance : ℤ) → ChildIs d incumbent tolerance (left d b branch) (length before.growth.nodes) first first_more
+  pub second_is : (incumbent : Option Rational) (tolerance : ℤ) → ChildIs d incumbent tolerance (right d b branch) (suc (length before.growth.nodes)) second second_more
+  pub first_under : AreUnder y first_more
+  pub second_under : AreUnder y second_more
+  pub first_new : IsNewNode d (left d b branch) first
+  pub second_new : IsNewNode d (right d b branch) second
+  pub after_is : after ≡ branched_search before id solved branch first second first_more second_more
+
+-- ---- a node that ended at a vertex
+
+-- the key closes the node at the best point
+pub record ClosedAtVertex (d : DeckValue) (before : Search) (id : ℕ) (solved : Solved) (y : MultipliersValue) (k : Key) (after : Search) : Type 0 where
+  pub bound : Rational
+  pub closing : IsClosing d before.incumbent k bound
+  pub closed : HasClosed before id (Some solved) y bound after
+
+-- the key does not close it, and it is branched
+pub record BranchedAtVertex (d : DeckValue) (b : BoxValue) (before : Search) (id : ℕ) (solved : Solved) (asked : Option Branch) (y : MultipliersValue) (k : Key) (after : Search) : Type 0 where
+  pub open_still : IsNotClosing d before.incumbent k
+  pub branch : Branch
+  pub asked_is : asked ≡ Some branch
+  pub branched : HasBranched d b before id solved branch y after
+
+-- the key does not close it, and no branch is asked for: the search stops, and the node keeps the multipliers of the vertex
+pub record StoppedAtGrid (d : DeckValue) (before : Search) (id : ℕ) (solved : Solved) (asked : Option Branch) (y : MultipliersValue) (k : Key) (halt : Halt) (after : Search) : Type 0 where
+  pub open_still : IsNotClosing d before.incumbent k
+  pub none : asked ≡ None
+  pub same : after ≡ before
+  pub cause : halt.why ≡ why.Grid solved.number
+  pub number_is : halt.solved ≡ Some solved
+  pub node_is : halt.hand.node ≡ id
+  pub key_is : halt.hand.key ≡ k
+  pub multipliers : plain_multipliers halt.hand.y ≡ y
+
+-- where the vertex led, for which this branch is asked, if one is
+abbrev pub VertexLed : DeckValue → BoxValue → Search → ℕ → Solved → Option Branch → MultipliersValue → Key → Option Halt → Search → Type 0
+VertexLed d b before id solved asked y k None after = ClosedAtVertex d before id solved y k after ⊎ BranchedAtVertex d b before id solved asked y k after
+VertexLed d b before id solved asked y k (Some halt) after = StoppedAtGrid d before id solved asked y k halt after
+
+-- the search but for its best point
+abbrev pub with_best : Search → Option Incumbent → Search
+with_best s best = record s { incumbent = best }
+
+-- a vertex was reached: it is the best point then where it is better, and its node is closed or branched, or the search stops. The key is that of its multipliers on the box, and the branch is what it asks for, which fits the box
+pub record AfterVertex (d : DeckValue) (b : BoxValue) (before : Search) (id : ℕ) (solved : Solved) (p : PointValue) (y : MultipliersValue) (halt : Option Halt) (after : Search) : Type 0 where
+  pub best : Option Incumbent
+  pub best_is : IsBestOf d p before.incumbent best
+  pub asked : Option Branch
+  pub asked_is : IfSome asked (IsBranchAt d p)
+  pub none_is : IsNone asked → AsksForNone d p
+  pub fits : IfSome asked (Fits d b)
+  pub key : Key
+  pub key_is : KeyIs (leaf_value d b y) y.y0 key
+  pub key_size : unsigned_abs key.value < 2 ^ 126
+  pub led : VertexLed d b (with_best before best) id solved asked y key halt after
+
+-- ---- a node that ended
+
+-- what is known of the numbers with which a node ended, from the run that they came from
+abbrev pub EndSays : DeckValue → BoxValue → NodeEnd → Type 0
+EndSays d b (end.Vertex point y) = IsSmallPoint (plain_point point) × AreBelow (2 ^ 40) (plain_multipliers y) × VertexSays d b (plain_point point) (plain_multipliers y)
+EndSays d b (end.Empty y) = AreBelow (2 ^ 40) (plain_multipliers y) × EmptySays d b (plain_multipliers y)
+EndSays d b (end.Stopped cause own) = IfSome own (λ y. OwnSays d (plain_multipliers y))
+
+-- the node of this id under these multipliers, which are its own; the key is theirs
+pub record HasOwn (d : DeckValue) (b : BoxValue) (id : ℕ) (y : MultipliersValue) (w : OpenNode) : Type 0 where
+  pub node_is : w.node ≡ id
+  pub multipliers : plain_multipliers w.y ≡ y
+  pub key_is : KeyIs (leaf_value d b y) y.y0 w.key
+  pub key_size : unsigned_abs w.key.value < 2 ^ 126
+
+-- the node in hand with its own multipliers where they were read, else as it was taken
+abbrev pub IsKept : DeckValue → BoxValue → OpenNode → Option MultipliersValue → OpenNode → Type 0
+IsKept d b taken None hand = hand ≡ taken
+IsKept d b taken (Some y) hand = HasOwn d b taken.node y hand
+
+-- the stop in the solving of the node in hand
+pub record HasStoppedAt (d : DeckValue) (b : BoxValue) (taken : OpenNode) (solved : Solved) (cause : Why) (own : Option MultipliersValue) (halt : Halt) : Type 0 where
+  pub cause_is : halt.why ≡ cause
+  pub number_is : halt.solved ≡ Some solved
+  pub kept : IsKept d b taken own halt.hand
+
+-- the search stopped in the solving of the node, and nothing changed
+abbrev pub StoppedWith : DeckValue → BoxValue → Search → OpenNode → Solved → Why → Option MultipliersValue → Option Halt → Search → Type 0
+StoppedWith d b before taken solved cause own None after = ⊥
+StoppedWith d b before taken solved cause own (Some halt) after = HasStoppedAt d b taken solved cause own halt × (after ≡ before)
+
+-- what became of the search where the node in hand ended so
+abbrev pub HasSettled : DeckValue → BoxValue → Search → OpenNode → Solved → NodeEnd → Option Halt → Search → Type 0
+HasSettled d b before taken solved (end.Vertex point y) halt after = AfterVertex d b before taken.node solved (plain_point point) (plain_multipliers y) halt after
+HasSettled d b before taken solved (end.Empty y) halt after = IsNone halt × (after ≡ emptied_search before taken.node solved (plain_multipliers y))
+HasSettled d b before taken solved (end.Stopped cause own) halt after = StoppedWith d b before taken solved cause (option_map plain_multipliers own) halt after

@@ -1,0 +1,196 @@
+//! The loop of a search: a node is taken, closed by its key, or solved.
+
+ghost use Rattle.std.specs.Prelude.{◌≡◌, ◌+◌, ◌≤◌, ◌<◌, [], length, option_map, IfOk, IfSome};
+ghost use Rattle.um_model.specs.Boxes.{root as root_of, IsVoid};
+ghost use Rattle.um_multipliers.specs.PlainMultipliers.{plain_multipliers};
+ghost use Rattle.um_deck.specs.Decks.{IsDeckNow, HasNoSetsOrArcs};
+ghost use Rattle.um_lp.specs.Relaxations.{frame_of};
+ghost use Rattle.um_duality.specs.Relaxed.{deck_frame};
+ghost use Rattle.um_relax.specs.Relaxations.{IsRelaxationOf};
+ghost use Rattle.um_solving.specs.Laws.{HasEnds, MayBegin, OwnSays};
+ghost use Rattle.um_loop.specs.Checkables.{AreCheckable};
+ghost use Rattle.um_loop.specs.Goings.{Beginning, IsGoing, HasTaken, GoesOn, HasRun};
+ghost use Rattle.um_loop.specs.Steps.{EndSays, HasSettled, HasOwn, HasStoppedAt};
+ghost use Rattle.um_tree.specs.Growths.{IsOpenAt};
+
+use crate::search::{Halt, Search};
+use crate::vertices::closing;
+use std::alloc::Global;
+use um_box::NodeBox;
+use um_children::key_of;
+use um_cover::box_of;
+use um_deck::Deck;
+use um_lp::Board;
+use um_model::{Multipliers, Solved, Why};
+use um_nodes::{Key, OpenNode};
+use um_num::Memory;
+use um_relax::Relaxation;
+use um_solving::{NodeEnd, solve_node};
+
+impl Search {
+    /// Takes nodes until none waits, or the search stops early: at the budget of `nodes` with a node in
+    /// hand that is not solved, or in the solving of a node. The error is want of memory.
+    pub fn run<B: Board>(
+        &mut self,
+        alloc: Global,
+        deck: &Deck,
+        relaxation: &mut Relaxation,
+        board: &mut B,
+        nodes: u32,
+        left: &mut u64,
+    ) -> Result<Option<Halt>, Memory>
+        ghost began: { Beginning }
+        requires plain { HasNoSetsOrArcs deck.now }
+        requires ends { HasEnds deck.now (root_of deck.now) }
+        requires relaxed { IsRelaxationOf deck.now relaxation.old }
+        requires frame { frame_of relaxation.old ≡ deck_frame deck.now }
+        requires begins { MayBegin deck.now (B.state board.old) }
+        requires going { IsGoing deck.now began.start began.most None self.old (B.state board.old) left.old }
+        requires budget { nodes ≤ 100000 }
+        requires within { self.old.solved ≤ nodes }
+        requires checkable { AreCheckable deck.now self.old.growth }
+        ensures run { IfOk result (λ halt. HasRun deck.now began.start began.most nodes halt self.new (B.state board.new) left.new) }
+        ensures within { IfOk result (λ halt. self.new.solved ≤ nodes) }
+        ensures checkable { IfOk result (λ halt. AreCheckable deck.now self.new.growth) }
+    {
+        deck.known();
+        'nodes: loop {
+            let Some(taken) = self.open.take() else {
+                return Ok(None);
+            };
+            if let Some(bound) = closing(deck, &self.incumbent, &taken.key) {
+                self.close(taken.node, None, taken.y, &bound);
+                continue;
+            }
+            if self.solved == nodes {
+                return Ok(Some(out_of_nodes(taken)));
+            }
+            if let Some(halt) = self.solve_next(alloc, deck, relaxation, board, taken, left)? {
+                return Ok(Some(halt));
+            }
+        }
+    }
+
+    /// Solves the node in hand under the next number, and settles it. Where the search stops in this, the
+    /// node keeps its own multipliers where they were read. The error is want of memory.
+    fn solve_next<B: Board>(
+        &mut self,
+        alloc: Global,
+        deck: &Deck,
+        relaxation: &mut Relaxation,
+        board: &mut B,
+        taken: OpenNode,
+        left: &mut u64,
+    ) -> Result<Option<Halt>, Memory>
+        ghost began: { Beginning }
+        requires plain { HasNoSetsOrArcs deck.now }
+        requires ends { HasEnds deck.now (root_of deck.now) }
+        requires relaxed { IsRelaxationOf deck.now relaxation.old }
+        requires frame { frame_of relaxation.old ≡ deck_frame deck.now }
+        requires begins { MayBegin deck.now (B.state board.old) }
+        requires taken { HasTaken deck.now began.start began.most taken self.old (B.state board.old) left.old }
+        requires few { self.old.solved < 100000 }
+        requires checkable { AreCheckable deck.now self.old.growth }
+        ensures same { relaxation.new ≡ relaxation.old }
+        ensures goes { IfOk result (λ halt. GoesOn deck.now began.start began.most self.old halt self.new (B.state board.new) left.new) }
+        ensures solved { IfOk result (λ halt. self.new.solved ≡ self.old.solved + 1) }
+        ensures checkable { IfOk result (λ halt. AreCheckable deck.now self.new.growth) }
+    {
+        deck.known();
+        let mut node = box_of(alloc, deck, &self.growth, taken.node)?;
+        self.solved += 1;
+        let number = self.solved;
+        let before = *left;
+        let end = solve_node(alloc, number, &node, relaxation, board, left)?;
+        let pivots = before - *left;
+        let solved = Solved { number, pivots };
+        self.settle(alloc, deck, &mut node, taken, solved, end)
+    }
+
+    /// The node in hand ended so, and is settled.
+    fn settle(
+        &mut self,
+        alloc: Global,
+        deck: &Deck,
+        node: &mut NodeBox<'_>,
+        taken: OpenNode,
+        solved: Solved,
+        end: NodeEnd,
+    ) -> Result<Option<Halt>, Memory>
+        requires formed { IsDeckNow deck.now }
+        requires plain { HasNoSetsOrArcs deck.now }
+        requires same_deck { node.old.deck ≡ deck.now }
+        requires ends { HasEnds deck.now node.old.limits }
+        requires full { ¬ IsVoid deck.now node.old.limits }
+        requires place { IsOpenAt self.old.growth taken.node }
+        requires room { length self.old.growth.nodes + 2 ≤ 200001 }
+        requires says { EndSays deck.now node.old.limits end }
+        ensures { IfOk result (λ halt. HasSettled deck.now node.old.limits self.old taken solved end halt self.new) }
+    {
+        match end {
+            NodeEnd::Vertex(point, y) => {
+                self.at_vertex(alloc, deck, node, &taken, solved, point, y)
+            }
+            NodeEnd::Empty(y) => {
+                self.empty(taken.node, solved, y);
+                Ok(None)
+            }
+            NodeEnd::Stopped(why, own) => Ok(Some(stopped(deck, node, taken, solved, why, own))),
+        }
+    }
+}
+
+/// The stop at the budget of nodes.
+fn out_of_nodes(hand: OpenNode) -> Halt
+    ensures cause { result.why ≡ Why.Nodes }
+    ensures none { result.solved ≡ None }
+    ensures hand { result.hand ≡ hand }
+{
+    Halt {
+        why: Why::Nodes,
+        hand,
+        solved: None,
+    }
+}
+
+/// The stop in the solving of the node in hand, which keeps its own multipliers where they were read.
+fn stopped(
+    deck: &Deck,
+    node: &NodeBox<'_>,
+    taken: OpenNode,
+    solved: Solved,
+    why: Why,
+    own: Option<Multipliers>,
+) -> Halt
+    requires same_deck { node.now.deck ≡ deck.now }
+    requires full { ¬ IsVoid deck.now node.now.limits }
+    requires no_arcs { deck.now.arcs ≡ [] }
+    requires own { IfSome own (λ y. OwnSays deck.now (plain_multipliers y)) }
+    ensures { HasStoppedAt deck.now node.now.limits taken solved why (option_map plain_multipliers own) result }
+{
+    let hand = match own {
+        Some(y) => with_own(deck, node, taken, y),
+        None => taken,
+    };
+    Halt {
+        why,
+        hand,
+        solved: Some(solved),
+    }
+}
+
+/// The node under its own multipliers.
+fn with_own(deck: &Deck, node: &NodeBox<'_>, taken: OpenNode, y: Multipliers) -> OpenNode
+    requires same_deck { node.now.deck ≡ deck.now }
+    requires full { ¬ IsVoid deck.now node.now.limits }
+    requires no_arcs { deck.now.arcs ≡ [] }
+    requires own { OwnSays deck.now (plain_multipliers y) }
+    ensures { HasOwn deck.now node.now.limits taken.node (plain_multipliers y) result }
+{
+    let Key { id, depth, .. } = taken.key;
+    OpenNode {
+        key: key_of(deck, node, id, depth, &y),
+        node: taken.node,
+        y,
+    }
+}
