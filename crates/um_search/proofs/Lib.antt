@@ -1,9 +1,9 @@
-pub mod Runs
-pub mod Refusals
 pub mod RootBoxes
-pub mod Starts
-pub mod Prices
-pub mod Accepting
-pub mod Telling
-pub mod Stopping
 pub mod SearchedColumns
+pub mod SpentPivots
+pub mod SpentNodes
+pub mod HandedLeaves
+pub mod OpenLeaves
+pub mod FinalAnswers
+pub mod Begun
+pub mod RunEnds

@@ -1,14 +1,14 @@
 -- Which decks are searched so far, and which budgets there are.
-use Rattle.std.specs.Prelude.{◌≡◌, ◌≤◌, pos, All}
+use Rattle.std.specs.Prelude.{◌≡◌, ◌≤◌, pos, ◌⊎◌, All}
 use Rattle.um_model.specs.Values.{DeckValue, ColumnValue}
 use Rattle.um_model.specs.WellFormed.{HasTwoEnds}
-use Rattle.um_model.specs.declared.deck.Kind.TheVariants.{Continuous}
+use Rattle.um_model.specs.declared.deck.Kind.TheVariants.{Continuous, Integer}
 use Rattle.um_deck.specs.Decks.{HasNoSetsOrArcs}
 use Rattle.um_search.specs.declared.budget.Budget.{Budget}
 
--- continuous, with two finite ends
+-- continuous or integer, with two finite ends
 pub record IsSearchedColumn (c : ColumnValue) : Type 0 where
-  pub continuous : c.kind ≡ Continuous
+  pub kind : (c.kind ≡ Continuous) ⊎ (c.kind ≡ Integer)
   pub bounded : HasTwoEnds c.low c.high
 
 -- no sets and arcs, and only such columns; the rows, their sides, the scales and the sense are free

@@ -1,4 +1,3 @@
-pub mod Answers
 pub mod Conditions
-pub mod Endings
-pub mod Roots
+pub mod Emptying
+pub mod Told

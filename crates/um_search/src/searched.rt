@@ -1,6 +1,7 @@
 //! Which decks are searched so far.
 
-ghost use Rattle.std.specs.Prelude.{◌↔◌, IsTrue, All, map};
+ghost use Rattle.std.specs.Prelude.{◌≡◌, ◌↔◌, ◌⊎◌, IsTrue, All, map};
+ghost use Rattle.um_model.specs.declared.deck.Kind.TheVariants.{Continuous, Integer};
 ghost use Rattle.um_model.specs.Values.{plain_column};
 ghost use Rattle.um_search.specs.Conditions.{IsSearched, IsSearchedColumn};
 
@@ -19,9 +20,18 @@ fn are_searched(columns: &[Column]) -> bool
     columns.iter().all(is_searched_column)
 }
 
-/// Whether the column is continuous and has two finite ends.
+/// Whether the column is continuous or integer, and has two finite ends.
 fn is_searched_column(column: &Column) -> bool
     ensures { IsTrue result ↔ IsSearchedColumn (plain_column column.now) }
 {
-    column.kind == Kind::Continuous && column.low.is_some() && column.high.is_some()
+    is_searched_kind(column.kind) && column.low.is_some() && column.high.is_some()
+}
+
+fn is_searched_kind(kind: Kind) -> bool
+    ensures { IsTrue result ↔ (kind ≡ Continuous) ⊎ (kind ≡ Integer) }
+{
+    match kind {
+        Kind::Continuous | Kind::Integer => true,
+        Kind::Semi(_) => false,
+    }
 }

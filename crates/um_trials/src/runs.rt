@@ -2,13 +2,13 @@
 
 ghost use Rattle.std.specs.Prelude.{◌≡◌, IfOk};
 ghost use Rattle.um_lp.specs.Boards.{IsStart};
+ghost use Rattle.um_lp.specs.DualSteps.{IsDualFeasible};
 ghost use Rattle.um_lp.specs.Relaxations.{frame_of};
 ghost use Rattle.um_model.specs.Boxes.{root as root_of};
 ghost use Rattle.um_model.specs.WellFormed.{IsDeck};
 ghost use Rattle.um_relax.specs.Relaxations.{IsRelaxationOf};
-ghost use Rattle.um_duality.specs.Relaxed.{deck_frame};
+ghost use Rattle.um_duality.specs.Relaxed.{StandsFor, deck_frame};
 ghost use Rattle.um_search.specs.Conditions.{IsSearched, IsBudget};
-ghost use Rattle.um_search.specs.Roots.{IsReady};
 
 use std::alloc::Global;
 use std::process::Abort;
@@ -17,9 +17,9 @@ use um_box::NodeBox;
 use um_deck::Deck;
 use um_dual::{Ended, Stepped};
 use um_lp::Board;
-use um_model::{Multipliers, Point, Price, What};
+use um_model::{Multipliers, Point, Price, Solved, What};
 use um_mps::read;
-use um_num::Memory;
+use um_num::{Frac, Memory};
 use um_relax::{Large, Reboxed, Relaxation, build, farkas, multipliers, rebox, vertex};
 use um_search::{Answer, AnswerKind, Budget, is_searched, solve, solve_on};
 use um_tableau::Tableau;
@@ -158,6 +158,33 @@ fn runs(rt: HostRuntime) -> Result<(), Fail> {
     Ok(())
 }
 
+/// Three steps with whole columns: the root is branched on y, and its left child on x.
+const WHOLE: &[u8] =
+    b"NAME ROW2\nROWS\n N c\n L a\n L b\nCOLUMNS\n M1 'MARKER' 'INTORG'\n x c -5\n x a 6\n x b 1\n y c -4\n y a 4\n y b 2\n M2 'MARKER' 'INTEND'\nRHS\n RHS a 24\n RHS b 6\nBOUNDS\n LO BND x 0\n UP BND x 10\n LO BND y 0\n UP BND y 10\nENDATA\n";
+
+/// The number and the pivots of each node of its tree, a parent before its children and the left child first.
+const SOLVED: [(u32, u64); 5] = [(1, 3), (2, 1), (4, 2), (5, 2), (3, 3)];
+
+#[test]
+fn branches(rt: HostRuntime) -> Result<(), Fail> {
+    let deck = deck_of(rt.alloc(), WHOLE)?;
+    let budget = Budget {
+        nodes: 100,
+        pivots: 1_000,
+        tolerance: 0,
+    };
+    let answer = solve(rt.alloc(), &deck, budget)?;
+    assert_eq!(rt; answer.kind, AnswerKind::Optimal);
+    assert_eq!(rt; answer.objective, Some(Frac::new(-20, 1)));
+    assert_eq!(rt; answer.bound, Some(Frac::new(-20, 1)));
+    is_at(&rt, &answer.point, &[1, 4, 0]);
+    assert_eq!(rt; answer.tree.nodes().len(), 5);
+    for (node, (number, pivots)) in answer.tree.nodes().iter().zip(SOLVED) {
+        assert_eq!(rt; node.solved, Some(Solved { number, pivots }));
+    }
+    Ok(())
+}
+
 /// The first step on a board with the root's ends.
 fn first_step<B: Board>(
     root: &NodeBox<'_>,
@@ -214,7 +241,8 @@ fn read_end<B: Board>(
 ) -> Result<Option<Reading>, Large>
     requires relaxed { IsRelaxationOf root.now.deck relaxation.now }
     requires frame { frame_of relaxation.now ≡ deck_frame root.now.deck }
-    requires ready { IsReady root.now.deck (B.state board.old) }
+    requires stands { StandsFor root.now.deck (B.state board.old) }
+    requires feasible { IsDualFeasible (B.state board.old) }
 {
     let _ = root;
     let mut left = 10;

@@ -1,0 +1,172 @@
+-- The answers of a search that is over, and of one that stopped: accepted, right, fit to be checked, and telling the search.
+use Rattle.std.proofs.Common.{◌≡◌, ℕ, zero, suc, ◌≤◌, pos, Bool, List, [], ◌∷◌, length, map, Option, Some, None, refl, sym, subst, arith}
+use Rattle.std.specs.Prelude.{All, IsSome, IfSome}
+use Rattle.um_laws.specs.Rational.{Rational}
+use Rattle.um_model.specs.Values.{DeckValue, PointValue}
+use Rattle.um_model.specs.Boxes.{BoxValue}
+use Rattle.um_model.specs.WellFormed.{IsDeck}
+use Rattle.um_model.specs.Accepted.{ToleranceHolds, IsAccepted}
+use Rattle.um_model.specs.AnswerValues.{AnswerValue, NodeValue, WhatValue, Split, Bounded, Empty, Void, OpenLeaf, kind_of_stop}
+use Rattle.um_model.specs.Checkable.{IsCheckable, IsCheckableWhat, IsCheckablePoint}
+use Rattle.um_model.specs.Right.{IsRight}
+use Rattle.um_model.specs.declared.answer.AnswerKind.{AnswerKind}
+use Rattle.um_model.specs.declared.answer.Why.{Why}
+use Rattle.um_model.specs.declared.answer.Why.TheVariants as why
+use Rattle.um_soundness.proofs.AcceptedTrees.{accepted-is-right-law}
+use Rattle.um_deck.specs.Decks.{HasNoSetsOrArcs}
+use Rattle.um_lp.specs.States.{State}
+use Rattle.um_tree.specs.Growths.{GrowthValue, node_at, what_at, AreInside, IsTold}
+use Rattle.um_cover.specs.Sites.{box_at}
+use Rattle.um_cover.specs.Nodes.{NodeIs}
+use Rattle.um_nodes.specs.declared.open_nodes.OpenNode.{OpenNode}
+use Rattle.um_progress.specs.declared.incumbent.Incumbent.{Incumbent}
+use Rattle.um_progress.specs.Waits.{id_of}
+use Rattle.um_progress.specs.Numbers.{IsNumbered}
+use Rattle.um_progress.specs.Ends.{point_of, stopped}
+use Rattle.um_progress.specs.Searches.{objective_of, IsIncumbent, IsBounded, IsSearch}
+use Rattle.um_progress.specs.Stops.{bound_of, IsStopping}
+use Rattle.um_progress.proofs.Settling.{optimal_accepted, infeasible_accepted, stopped_accepted}
+use Rattle.um_turns.specs.Turns.{Turn}
+use Rattle.um_turns.specs.Histories.{History, IsHistory, AreFinished}
+use Rattle.um_search.specs.declared.budget.Budget.{Budget}
+use Rattle.um_loop.specs.declared.search.Search.{Search}
+use Rattle.um_search.specs.Told.{IsHaltedLast, IsEndedBy, HasSpentNodes, HasSpentPivots, TellsSearch}
+use Rattle.um_loop.specs.Checkables.{AreCheckable}
+use Rattle.um_search.specs.Emptying.{IsOver, kind_of_over, AreHandedBut, HasFresh, IsEmptying}
+use Rattle.um_turns.proofs.Chains.{pivots_all}
+use Rattle.um_search.proofs.SpentPivots.{pivots_spent}
+use Rattle.um_search.proofs.SpentNodes.{none_solved}
+use Rattle.um_search.proofs.HandedLeaves.{none_but}
+
+pub record AnswersFor (d : DeckValue) (budget : Budget) (a : AnswerValue) : Type 0 where
+  pub accepted : IsAccepted d a
+  pub right : IsRight d a
+  pub checkable : IsCheckable d a
+  pub tells : TellsSearch d budget a
+
+tolerance : (d : DeckValue) → HasNoSetsOrArcs d → ToleranceHolds d (pos 0)
+tolerance d plain = record { without_arcs = λ _. refl; least = λ some. absurd (some plain.arcs); most = λ some. absurd (some plain.arcs) }
+
+-- ---- what can be checked
+nodes_checkable : (d : DeckValue) (g : GrowthValue) → AreCheckable d g → (ids : List ℕ) → AreInside (length g.nodes) ids → All (λ (n : NodeValue). IsCheckableWhat d n.what) (map (node_at g) ids)
+nodes_checkable d g all [] inside k default h = absurd (omega arith)
+nodes_checkable d g all (j ∷ js) inside zero default h = all j inside.0
+nodes_checkable d g all (j ∷ js) inside (suc k) default h = nodes_checkable d g all js inside.1 k default (omega arith)
+
+tree_checkable : (d : DeckValue) (g : GrowthValue) (tree : List NodeValue) → AreCheckable d g → IsTold g tree → All (λ (n : NodeValue). IsCheckableWhat d n.what) tree
+tree_checkable d g tree all told = subst (All (λ (n : NodeValue). IsCheckableWhat d n.what)) (sym told.tree_is) (nodes_checkable d g all told.ids told.is.inside)
+
+point_checkable : (d : DeckValue) (i : Option Incumbent) → IfSome i (IsIncumbent d) → IfSome (point_of i) (IsCheckablePoint d)
+point_checkable d None best = tt
+point_checkable d (Some i) best = record { den = best.solution.feasible.den; parts = best.solution.feasible.parts }
+
+-- ---- nothing waits
+abbrev over_answer : Option Incumbent → Option Rational → List NodeValue → AnswerValue
+over_answer i least tree = record { kind = kind_of_over i; why = None; tolerance = pos 0; objective = objective_of i; bound = least; point = point_of i; ray = None; tree = tree }
+
+unbounded : (d : DeckValue) (b : BoxValue) (w : WhatValue) → NodeIs d None (pos 0) b w → ¬ IsBounded w
+unbounded d b (Split branch) h is = is
+unbounded d b (Bounded y) h is = h.closes
+unbounded d b (Empty y) h is = is
+unbounded d b (Void column) h is = is
+unbounded d b (OpenLeaf y) h is = is
+
+module _ (d : DeckValue) (plain : HasNoSetsOrArcs d) (history : History) (g : GrowthValue) (tree : List NodeValue) (told : IsTold g tree) where
+  over_accepted : (i : Option Incumbent) (least : Option Rational) → (IsSome i → IsSome least) → IsSearch Turn d (pos 0) history None g [] i least → IsAccepted d (over_answer i least tree)
+  over_accepted (Some i) (Some x) found s = optimal_accepted Turn d (pos 0) history g i x tree s (tolerance d plain) told
+  over_accepted (Some i) None found s = absurd (let h = found refl in cc)
+  over_accepted None (Some x) found s = let a = s.closed.among in absurd (unbounded d (box_at d g a.0) (what_at g a.0) (s.nodes a.0 a.1) a.2)
+  over_accepted None None found s = infeasible_accepted Turn d (pos 0) history g None tree s (tolerance d plain) told
+
+module _ (d : DeckValue) (formed : IsDeck d) (plain : HasNoSetsOrArcs d) (budget : Budget) (s : Search) (over : IsOver d budget.pivots s) (within : s.solved ≤ budget.nodes) (checkable : AreCheckable d s.growth) (tree : List NodeValue) (told : IsTold s.growth tree) where
+  search : IsSearch Turn d (pos 0) over.ran.going.history None s.growth [] s.incumbent s.least
+  search = subst (λ (ws : List OpenNode). IsSearch Turn d (pos 0) over.ran.going.history None s.growth ws s.incumbent s.least) over.ran.none over.ran.going.search
+
+  accepts : IsAccepted d (over_answer s.incumbent s.least tree)
+  accepts = over_accepted d plain over.ran.going.history s.growth tree told s.incumbent s.least over.ran.going.found search
+
+  over_answers : AnswersFor d budget (over_answer s.incumbent s.least tree)
+  over_answers = record {
+    accepted = accepts;
+    right = accepted-is-right-law d (over_answer s.incumbent s.least tree) formed accepts;
+    checkable = record { point = point_checkable d s.incumbent search.best; ray = tt; nodes = tree_checkable d s.growth tree checkable told };
+    tells = record {
+      tolerance = refl;
+      ray = refl;
+      growth = s.growth;
+      is = search.growth;
+      tree = told;
+      start = over.start;
+      history = over.ran.going.history;
+      told = over.ran.going.told;
+      numbered = search.numbered;
+      handed = λ id inside. none_but s.growth over.ran.going.history [] search.all id inside (λ a. a);
+      best = record { incumbent = s.incumbent; best = over.ran.going.best; point = refl; objective = refl };
+      ended = over.ran.going.finished;
+      nodes = subst (λ (k : ℕ). k ≤ budget.nodes) over.ran.going.solved within;
+      pivots = let h = pivots_all over.start budget.pivots over.ran.going.history over.ran.going.told.chained in omega (arith, h);
+      spent_nodes = λ e. absurd (cc);
+      spent_pivots = λ e. absurd (cc);
+    };
+  }
+
+  pub over_answered : (kind : AnswerKind) (objective : Option Rational) (point : Option PointValue) → kind ≡ kind_of_over s.incumbent → objective ≡ objective_of s.incumbent → point ≡ point_of s.incumbent
+      → AnswersFor d budget (record { kind = kind; why = None; tolerance = pos 0; objective = objective; bound = s.least; point = point; ray = None; tree = tree })
+  over_answered kind objective point k o p =
+      subst (λ (x : AnswerKind). AnswersFor d budget (record { kind = x; why = None; tolerance = pos 0; objective = objective; bound = s.least; point = point; ray = None; tree = tree })) (sym k)
+      (subst (λ (x : Option Rational). AnswersFor d budget (record { kind = kind_of_over s.incumbent; why = None; tolerance = pos 0; objective = x; bound = s.least; point = point; ray = None; tree = tree })) (sym o)
+      (subst (λ (x : Option PointValue). AnswersFor d budget (record { kind = kind_of_over s.incumbent; why = None; tolerance = pos 0; objective = objective_of s.incumbent; bound = s.least; point = x; ray = None; tree = tree })) (sym p) over_answers))
+
+-- ---- the search stopped
+spent_by : (d : DeckValue) (start : State) (budget : Budget) (g : GrowthValue) (history : History) → IsHistory d start budget.pivots g history → IsHaltedLast history why.Pivots → HasSpentPivots d budget g history
+spent_by d start budget g history told h =
+    subst (HasSpentPivots d budget g) (sym h.history_is) (pivots_spent d start budget g h.before h.last h.own (subst (IsHistory d start budget.pivots g) h.history_is told) h.end)
+
+spent_between : (d : DeckValue) (start : State) (budget : Budget) (g : GrowthValue) (history : History) → IsHistory d start budget.pivots g history → IsNumbered Turn g history → AreFinished history → length history ≡ budget.nodes → HasFresh g → HasSpentNodes budget g history
+spent_between d start budget g history told numbered finished all hand = record { all = all; unsolved = none_solved d start budget.pivots g history told numbered finished; hand = hand.0; fresh = hand.1 }
+
+cause_is : (a b : Why) → Some a ≡ Some b → a ≡ b
+cause_is a b e = cc
+
+module _ (d : DeckValue) (formed : IsDeck d) (plain : HasNoSetsOrArcs d) (budget : Budget) (cause : Why) (i : Option Incumbent) (g : GrowthValue) (ws : List OpenNode) (endless : Bool) (least : Option Rational) (none : ws ≡ []) (s : IsEmptying d budget cause i g ws endless least) (tree : List NodeValue) (told : IsTold g tree) where
+  abbrev answer : AnswerValue
+  answer = stopped (kind_of_stop cause) cause (pos 0) i (bound_of endless least) tree
+
+  stopping : IsStopping Turn d (pos 0) s.history g [] i endless least
+  stopping = subst (λ (xs : List OpenNode). IsStopping Turn d (pos 0) s.history g xs i endless least) none s.stopping
+
+  stop_accepts : IsAccepted d answer
+  stop_accepts = stopped_accepted Turn d (pos 0) s.history g i endless least (kind_of_stop cause) cause tree stopping (tolerance d plain) refl told
+
+  stop_answers : AnswersFor d budget answer
+  stop_answers = record {
+    accepted = stop_accepts;
+    right = accepted-is-right-law d answer formed stop_accepts;
+    checkable = record { point = point_checkable d i stopping.draining.best; ray = tt; nodes = tree_checkable d g tree s.checkable told };
+    tells = record {
+      tolerance = refl;
+      ray = refl;
+      growth = g;
+      is = stopping.draining.growth;
+      tree = told;
+      start = s.start;
+      history = s.history;
+      told = s.told;
+      numbered = stopping.draining.numbered;
+      handed = λ id inside. (subst (λ (xs : List OpenNode). AreHandedBut g s.history (map id_of xs)) none s.others) id inside (λ a. a);
+      best = record { incumbent = i; best = s.best; point = refl; objective = refl };
+      ended = s.ended;
+      nodes = s.nodes;
+      pivots = let h = pivots_all s.start budget.pivots s.history s.told.chained in omega (arith, h);
+      spent_nodes = λ e. spent_between d s.start budget g s.history s.told stopping.draining.numbered (subst (IsEndedBy s.history) e s.ended) (s.all (cause_is cause why.Nodes e)) (s.hand (cause_is cause why.Nodes e));
+      spent_pivots = λ e. spent_by d s.start budget g s.history s.told (subst (IsEndedBy s.history) e s.ended);
+    };
+  }
+
+  pub stop_answered : (kind : AnswerKind) (objective bound : Option Rational) (point : Option PointValue) → kind ≡ kind_of_stop cause → objective ≡ objective_of i → bound ≡ bound_of endless least → point ≡ point_of i
+      → AnswersFor d budget (record { kind = kind; why = Some cause; tolerance = pos 0; objective = objective; bound = bound; point = point; ray = None; tree = tree })
+  stop_answered kind objective bound point k o b p =
+      subst (λ (x : AnswerKind). AnswersFor d budget (record { kind = x; why = Some cause; tolerance = pos 0; objective = objective; bound = bound; point = point; ray = None; tree = tree })) (sym k)
+      (subst (λ (x : Option Rational). AnswersFor d budget (record { kind = kind_of_stop cause; why = Some cause; tolerance = pos 0; objective = x; bound = bound; point = point; ray = None; tree = tree })) (sym o)
+      (subst (λ (x : Option Rational). AnswersFor d budget (record { kind = kind_of_stop cause; why = Some cause; tolerance = pos 0; objective = objective_of i; bound = x; point = point; ray = None; tree = tree })) (sym b)
+      (subst (λ (x : Option PointValue). AnswersFor d budget (record { kind = kind_of_stop cause; why = Some cause; tolerance = pos 0; objective = objective_of i; bound = bound_of endless least; point = x; ray = None; tree = tree })) (sym p) stop_answers)))

@@ -1,0 +1,50 @@
+-- The open leaves without a number have the multipliers that they were handed, as one after the other gets them.
+use Rattle.std.proofs.Common.{◌≡◌, ◌∙◌, ℕ, ◌<◌, ◌⊎◌, inl, inr, List, [], ◌∷◌, ◌++◌, length, map, None, sym, ap, subst, arith}
+use Rattle.std.proofs.Math.ListN.{length-set}
+use Rattle.um_laws.proofs.Places.{at_set}
+use Rattle.um_multipliers.specs.PlainMultipliers.{MultipliersValue}
+use Rattle.um_model.specs.Values.{DeckValue}
+use Rattle.um_model.specs.AnswerValues.{NodeValue, OpenLeaf}
+use Rattle.um_tree.specs.Growths.{GrowthValue, node_at, no_node, what_at, origin_at, settled, IsAmong}
+use Rattle.um_tree.proofs.Writes.{elsewhere}
+use Rattle.um_nodes.specs.declared.open_nodes.OpenNode.{OpenNode}
+use Rattle.um_progress.specs.Waits.{IsOpenLeaf, IsFresh, id_of}
+use Rattle.um_progress.proofs.Changes.{settle_changes, which}
+use Rattle.um_turns.specs.Histories.{History, IsHanded}
+use Rattle.um_search.specs.Emptying.{AreHandedBut}
+
+-- an open leaf without a number
+abbrev pub leaf_of : MultipliersValue → NodeValue
+leaf_of y = record { solved = None; what = OpenLeaf y }
+
+open_there : (g : GrowthValue) (id : ℕ) (y : MultipliersValue) → node_at g id ≡ leaf_of y → IsOpenLeaf (what_at g id)
+open_there g id y is = subst (λ (n : NodeValue). IsOpenLeaf n.what) (sym is) tt
+
+-- what is put into the tree so is one
+pub fresh_leaf : (g : GrowthValue) (id : ℕ) (y : MultipliersValue) → id < length g.nodes → IsFresh (settled g id (leaf_of y)) id
+fresh_leaf g id y inside =
+    let here : node_at (settled g id (leaf_of y)) id ≡ leaf_of y = at_set g.nodes id (leaf_of y) no_node inside in
+    record { inside = omega (arith, inside, length-set g.nodes id (leaf_of y)); open_leaf = open_there (settled g id (leaf_of y)) id y here; solved = ap (λ (n : NodeValue). n.solved) here }
+
+-- where all open leaves are among these ids, no other one is to be told of
+pub none_but : (g : GrowthValue) (history : History) (ids : List ℕ) → ((id : ℕ) → id < length g.nodes → IsOpenLeaf (what_at g id) → IsAmong id ids) → AreHandedBut g history ids
+none_but g history ids all id inside apart y is = absurd (apart (all id inside (open_there g id y is)))
+
+-- the last of some entries, or one of the others
+pub among_last : (ws : List OpenNode) (w : OpenNode) (id : ℕ) → IsAmong id (map id_of (ws ++ w ∷ [])) → (id ≡ w.node) ⊎ IsAmong id (map id_of ws)
+among_last [] w id (inl same) = inl same
+among_last [] w id (inr none) = absurd none
+among_last (v ∷ vs) w id (inl same) = inr (inl same)
+among_last (v ∷ vs) w id (inr more) = elim (among_last vs w id more) [ inl same ↦ inl same | inr a ↦ inr (inr a) ]
+
+-- a node of some ids becomes another one, and where that is an open leaf without a number, it has what it was handed
+pub but_on : (d : DeckValue) (g : GrowthValue) (history : History) (id : ℕ) (ids others : List ℕ) (node : NodeValue) → id < length g.nodes → ((j : ℕ) → IsAmong j ids → (j ≡ id) ⊎ IsAmong j others)
+    → ((y : MultipliersValue) → node ≡ leaf_of y → IsHanded history (origin_at g id) y) → AreHandedBut g history ids → AreHandedBut (settled g id node) history others
+but_on d g history id ids others node inside one own all j within apart y is = elim (which d g (settled g id node) id (settle_changes d g id node) j) [
+  | inl same ↦
+      let here : node_at (settled g id node) id ≡ node = at_set g.nodes id node no_node inside in
+      let at : node_at (settled g id node) id ≡ leaf_of y = subst (λ (k : ℕ). node_at (settled g id node) k ≡ leaf_of y) (sym same) is in
+      subst (λ (k : ℕ). IsHanded history (origin_at g k) y) same (own y (sym here ∙ at))
+  | inr (inl older) ↦ all j older.0 (λ a. elim (one j a) [ inl e ↦ older.1 (sym e) | inr among ↦ apart among ]) y (sym (elsewhere g.nodes id j node no_node older.1) ∙ is)
+  | inr (inr above) ↦ absurd (omega (arith, within, above, length-set g.nodes id node))
+]

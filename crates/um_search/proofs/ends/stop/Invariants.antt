@@ -1,0 +1,9 @@
+use Rattle.std.proofs.Common.{length}
+use Rattle.um_search.specs.Emptying.{IsEmptying}
+use Rattle.um_search.proofs.ends.stop.Given as goal
+
+abbrev pub invariant-entries : goal.invariant-entries
+invariant-entries l = IsEmptying l.deck l.fn.budget l.why l.incumbent l.growth l.open l.bounds.endless l.bounds.least
+
+abbrev pub decreases-entries : goal.decreases-entries
+decreases-entries l = length l.open

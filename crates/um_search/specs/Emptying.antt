@@ -1,0 +1,71 @@
+-- A search that is over, and what holds while the open nodes of one that stopped early get their multipliers.
+use Rattle.std.specs.Prelude.{◌≡◌, ℕ, ◌<◌, ◌≤◌, pos, Bool, List, length, map, Option, Some, None}
+use Rattle.um_laws.specs.Rational.{Rational}
+use Rattle.um_multipliers.specs.PlainMultipliers.{plain_multipliers}
+use Rattle.um_multipliers.specs.NormalForm.{HasRisingRows}
+use Rattle.um_model.specs.Values.{DeckValue}
+use Rattle.um_model.specs.declared.answer.AnswerKind.{AnswerKind}
+use Rattle.um_model.specs.declared.answer.AnswerKind.TheVariants.{Optimal, Infeasible as HasNone}
+use Rattle.um_model.specs.declared.answer.Why.{Why}
+use Rattle.um_model.specs.declared.answer.Why.TheVariants as why
+use Rattle.um_lp.specs.States.{State}
+use Rattle.um_tree.specs.Growths.{GrowthValue, IsAmong}
+use Rattle.um_nodes.specs.declared.open_nodes.OpenNode.{OpenNode}
+use Rattle.um_progress.specs.declared.incumbent.Incumbent.{Incumbent}
+use Rattle.um_progress.specs.Waits.{Every, IsFresh, id_of}
+use Rattle.um_progress.specs.Stops.{IsStopping}
+use Rattle.um_turns.specs.Turns.{Turn}
+use Rattle.um_turns.specs.Histories.{History, IsHistory, AreHanded, IsBest}
+use Rattle.um_search.specs.declared.budget.Budget.{Budget}
+use Rattle.um_loop.specs.declared.search.Search.{Search}
+use Rattle.um_loop.specs.declared.search.Halt.{Halt}
+use Rattle.um_loop.specs.Checkables.{AreCheckable}
+use Rattle.um_loop.specs.Goings.{RanOut, HasStopped}
+use Rattle.um_search.specs.Told.{IsEndedBy, IsHandedLeaf}
+
+-- the multipliers of each entry are of rows of the deck, in rising order
+abbrev pub AreRising : DeckValue → List OpenNode → Type 0
+AreRising d waiting = Every (λ (w : OpenNode). HasRisingRows (length d.rows) (plain_multipliers w.y).rows) waiting
+
+-- a search with so many pivots, begun on some board, in which no node waits any more
+pub record IsOver (d : DeckValue) (pivots : ℕ) (s : Search) : Type 0 where
+  pub start : State
+  pub board : State
+  pub left : ℕ
+  pub ran : RanOut d start pivots s board left
+
+-- the kind of its answer
+abbrev pub kind_of_over : Option Incumbent → AnswerKind
+kind_of_over None = HasNone
+kind_of_over (Some i) = Optimal
+
+-- a search with so many pivots and nodes, begun on some board, that stopped early
+pub record IsHalted (d : DeckValue) (pivots nodes : ℕ) (s : Search) (halt : Halt) : Type 0 where
+  pub start : State
+  pub board : State
+  pub left : ℕ
+  pub stopped : HasStopped d start pivots nodes s halt board left
+
+-- the open leaves without a number, but for those of these ids, have the multipliers that they were handed
+abbrev pub AreHandedBut : GrowthValue → History → List ℕ → Type 0
+AreHandedBut g history ids = (id : ℕ) → id < length g.nodes → ¬ IsAmong id ids → IsHandedLeaf g history id
+
+-- some node is an open leaf without a number
+abbrev pub HasFresh : GrowthValue → Type 0
+HasFresh g = (id : ℕ) × IsFresh g id
+
+-- A search that stopped for this cause, where these entries have not got their multipliers yet; `endless` and `least` are what is known of the bounds of all other nodes.
+pub record IsEmptying (d : DeckValue) (budget : Budget) (cause : Why) (incumbent : Option Incumbent) (g : GrowthValue) (waiting : List OpenNode) (endless : Bool) (least : Option Rational) : Type 0 where
+  pub start : State
+  pub history : History
+  pub stopping : IsStopping Turn d (pos 0) history g waiting incumbent endless least
+  pub told : IsHistory d start budget.pivots g history
+  pub rising : AreRising d waiting
+  pub checkable : AreCheckable d g
+  pub handed : AreHanded g history waiting
+  pub others : AreHandedBut g history (map id_of waiting)
+  pub best : IsBest d history incumbent
+  pub ended : IsEndedBy history (Some cause)
+  pub nodes : length history ≤ budget.nodes
+  pub all : cause ≡ why.Nodes → length history ≡ budget.nodes
+  pub hand : cause ≡ why.Nodes → HasFresh g

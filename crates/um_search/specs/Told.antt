@@ -1,0 +1,103 @@
+-- What an answer tells of the search that it came from.
+use Rattle.std.specs.Prelude.{◌≡◌, ℕ, ◌<◌, ◌≤◌, pos, [], ◌∷◌, ◌++◌, length, Option, Some, None}
+use Rattle.um_multipliers.specs.PlainMultipliers.{MultipliersValue}
+use Rattle.um_model.specs.Values.{DeckValue}
+use Rattle.um_model.specs.AnswerValues.{AnswerValue, OpenLeaf}
+use Rattle.um_model.specs.declared.answer.Why.{Why}
+use Rattle.um_model.specs.declared.answer.Why.TheVariants as why
+use Rattle.um_lp.specs.States.{State}
+use Rattle.um_dual.specs.Methods.{IsDue}
+use Rattle.um_solving.specs.Solvings.{IsRun}
+use Rattle.um_tree.specs.Growths.{GrowthValue, IsGrowth, IsTold, node_at, what_at, origin_at}
+use Rattle.um_cover.specs.Sites.{box_at}
+use Rattle.um_progress.specs.declared.incumbent.Incumbent.{Incumbent}
+use Rattle.um_progress.specs.Waits.{IsOpenLeaf, IsFresh}
+use Rattle.um_progress.specs.Numbers.{Number, IsNumbered}
+use Rattle.um_progress.specs.Searches.{objective_of}
+use Rattle.um_progress.specs.Ends.{point_of}
+use Rattle.um_turns.specs.Turns.{Turn, Halted}
+use Rattle.um_turns.specs.Histories.{History, IsHanded, IsHistory, AreFinished, IsBest, pivots_of}
+use Rattle.um_search.specs.declared.budget.Budget.{Budget}
+
+-- ---- how the search ended
+
+-- the search stopped for this cause in its last turn, and in none before
+pub record IsHaltedLast (history : History) (cause : Why) : Type 0 where
+  pub before : History
+  pub last : Number Turn
+  pub own : Option MultipliersValue
+  pub history_is : history ≡ before ++ last ∷ []
+  pub finished : AreFinished before
+  pub end : last.told.end ≡ Halted cause own
+
+-- It ended because no node waits, or at its budget of nodes between two turns, or in its last turn.
+abbrev pub IsEndedBy : History → Option Why → Type 0
+IsEndedBy history None = AreFinished history
+IsEndedBy history (Some why.Nodes) = AreFinished history
+IsEndedBy history (Some cause) = IsHaltedLast history cause
+
+-- all nodes of the budget are solved, and none of them is an open leaf; the one in hand is one, without a number
+pub record HasSpentNodes (budget : Budget) (g : GrowthValue) (history : History) : Type 0 where
+  pub all : length history ≡ budget.nodes
+  pub unsolved : (id : ℕ) → id < length g.nodes → IsOpenLeaf (what_at g id) → (node_at g id).solved ≡ None
+  pub hand : ℕ
+  pub fresh : IsFresh g hand
+
+-- all pivots of the budget are made, and a step is due on the node of the last turn
+pub record HasSpentPivots (d : DeckValue) (budget : Budget) (g : GrowthValue) (history : History) : Type 0 where
+  pub all : pivots_of history ≡ budget.pivots
+  pub before : History
+  pub last : Number Turn
+  pub history_is : history ≡ before ++ last ∷ []
+  pub state : State
+  pub run : IsRun d (box_at d g last.id) last.told.before last.pivots state
+  pub due : IsDue state
+
+-- ---- the open leaves
+
+-- where the node is an open leaf without a number, it has the multipliers that it was handed: 1 and none for the root, else those of the vertex of its parent
+abbrev pub IsHandedLeaf : GrowthValue → History → ℕ → Type 0
+IsHandedLeaf g history id = (y : MultipliersValue) → node_at g id ≡ record { solved = None; what = OpenLeaf y } → IsHanded history (origin_at g id) y
+
+-- and so of all nodes. An open leaf with a number is that of the turn in which the search stopped, and has its own multipliers where they were read, else those that it was handed, as the history says
+abbrev pub OpenLeavesAreHanded : GrowthValue → History → Type 0
+OpenLeavesAreHanded g history = (id : ℕ) → id < length g.nodes → IsHandedLeaf g history id
+
+-- ---- the best point
+
+-- the point and the objective are those of the first of least objective among the feasible vertices of the turns
+pub record TellsBest (d : DeckValue) (history : History) (a : AnswerValue) : Type 0 where
+  pub incumbent : Option Incumbent
+  pub best : IsBest d history incumbent
+  pub point : a.point ≡ point_of incumbent
+  pub objective : a.objective ≡ objective_of incumbent
+
+-- ---- the answer
+
+-- The answer tells a search within this budget: its tree, the turns of its nodes in the order of their numbers on
+-- one board, how it ended, and the best point of its turns.
+--   tree: the answer's tree tells the nodes of the growth in preorder
+--   told: each turn begins where the one before ended, its run is on the box of its node, and the node became what its end asks for
+--   numbered: the numbers in the tree are those of the turns
+--   handed: the open leaves without a number have the multipliers that they were handed
+--   ended: why it ended
+--   nodes, pivots: within the budget
+--   spent_nodes: where nodes were wanting, all are solved and one more is in hand
+--   spent_pivots: where pivots were wanting, all were made and one more step is due
+pub record TellsSearch (d : DeckValue) (budget : Budget) (a : AnswerValue) : Type 0 where
+  pub tolerance : a.tolerance ≡ pos 0
+  pub ray : a.ray ≡ None
+  pub growth : GrowthValue
+  pub is : IsGrowth growth
+  pub tree : IsTold growth a.tree
+  pub start : State
+  pub history : History
+  pub told : IsHistory d start budget.pivots growth history
+  pub numbered : IsNumbered Turn growth history
+  pub handed : OpenLeavesAreHanded growth history
+  pub best : TellsBest d history a
+  pub ended : IsEndedBy history a.why
+  pub nodes : length history ≤ budget.nodes
+  pub pivots : pivots_of history ≤ budget.pivots
+  pub spent_nodes : a.why ≡ Some why.Nodes → HasSpentNodes budget growth history
+  pub spent_pivots : a.why ≡ Some why.Pivots → HasSpentPivots d budget growth history
