@@ -4,10 +4,12 @@ use Rattle.std.specs.Prelude.{Option, Some, None}
 use Rattle.um_outside.specs.Scenes.{Scene}
 use Rattle.um_outside.specs.Sinks.{SinkScene}
 use Rattle.umpire.specs.CheckRuns.{CheckNames, check_of, CheckRan}
-use Rattle.umpire.specs.SolveRuns.{SolveNames, solve_of, SolveRan}
+use Rattle.umpire.specs.Calls.{CallPromise}
+use Rattle.umpire.specs.SolveWords.{SolveLine, solve_of}
+use Rattle.umpire.specs.SolveRuns.{SolveRan}
 use Rattle.umpire.specs.PrintRuns.{print_of, PrintRan}
 use Rattle.umpire.specs.Refusals.{refusal_text}
-use Rattle.umpire.specs.Runs.{CallPromise, RanAs, NoCommandRan, WordsDue, by_command}
+use Rattle.umpire.specs.Runs.{RanAs, NoCommandRan, WordsDue, by_command}
 use Rattle.umpire.specs.Stops.{SaidOrNot}
 use Rattle.umpire.specs.declared.ending.Ending.{Ending}
 use Rattle.umpire.specs.declared.ending.Ending.TheVariants.{Refused}
@@ -30,15 +32,15 @@ module _ (words : List (List ℕ)) (ending : Ending) (before after : Scene) (s t
 
   -- nor the second
   not_solve : solve_of words ≡ None → behind_solve words ending before after s t → behind_check words ending before after s t
-  not_solve none h = subst (λ (o : Option SolveNames). by_command o SolveRan (behind_solve words) ending before after s t) (sym none) h
+  not_solve none h = subst (λ (o : Option SolveLine). by_command o SolveRan (behind_solve words) ending before after s t) (sym none) h
 
   -- they are the first command
   pub as_check : (names : CheckNames) → check_of words ≡ Some names → CheckRan names ending before after s t → RanAs words ending before after s t
   as_check names is h = subst (λ (o : Option CheckNames). by_command o CheckRan (behind_check words) ending before after s t) (sym is) h
 
   -- the second
-  pub as_solve : (names : SolveNames) → check_of words ≡ None → solve_of words ≡ Some names → SolveRan names ending before after s t → RanAs words ending before after s t
-  as_solve names none is h = not_check none (subst (λ (o : Option SolveNames). by_command o SolveRan (behind_solve words) ending before after s t) (sym is) h)
+  pub as_solve : (line : SolveLine) → check_of words ≡ None → solve_of words ≡ Some line → SolveRan line ending before after s t → RanAs words ending before after s t
+  as_solve line none is h = not_check none (subst (λ (o : Option SolveLine). by_command o SolveRan (behind_solve words) ending before after s t) (sym is) h)
 
   -- the third
   pub as_print : (deck : List ℕ) → check_of words ≡ None → solve_of words ≡ None → print_of words ≡ Some deck → PrintRan deck ending before after s t → RanAs words ending before after s t

@@ -7,6 +7,7 @@ use Rattle.um_model.specs.AnswerValues.{AnswerValue}
 use Rattle.um_model.specs.Checkable.{IsCheckable, IsCheckablePoint}
 use Rattle.um_model.specs.declared.verdict.Verdict.TheVariants.{Yes}
 use Rattle.um_report.specs.Reports.{IsReportable, IsReportablePoint}
+use Rattle.um_search.specs.declared.budget.Budget.{Budget}
 use Rattle.umpire.specs.Findings.{Answers}
 
 -- the numbers of an accepted answer are small
@@ -25,9 +26,9 @@ point_reportable d (Some p) h small = record {
   parts_in = λ k x inside. omega (arith, small.parts k x inside);
 }
 
-pub reportable : (d : DeckValue) (a : AnswerValue) → IsCheckable d a → Answers d a → IsReportable d a
-reportable d a checkable answers = record {
-  tolerance = subst (λ (t : ℤ). pos 0 ≤ℤ t) (sym answers.run.tolerance) (omega (arith, ints));
+pub reportable : (d : DeckValue) (budget : Budget) (a : AnswerValue) → IsCheckable d a → Answers d budget a → IsReportable d a
+reportable d budget a checkable answers = record {
+  tolerance = subst (λ (t : ℤ). pos 0 ≤ℤ t) (sym answers.search.tolerance) (omega (arith, ints));
   point = point_reportable d a.point checkable.point (accepted_small d a answers.accepted).point;
   ray = checkable.ray;
 }

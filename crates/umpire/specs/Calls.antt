@@ -6,6 +6,10 @@ use Rattle.um_outside.specs.Sinks.{SinkScene, Took, TookFront}
 use Rattle.umpire.specs.declared.ending.Ending.{Ending}
 use Rattle.umpire.specs.declared.ending.Ending.TheVariants.{Faulted, WithoutMemory}
 
+-- what a call does to the desk and the output, by how it ends
+abbrev pub CallPromise : Type 1
+CallPromise = Ending → Scene → Scene → SinkScene → SinkScene → Type 0
+
 -- ---- texts
 
 -- the text that is due was written

@@ -13,7 +13,7 @@ use Rattle.umpire.specs.CheckedDecks.{IsChecked}
 use Rattle.umpire.specs.Findings.{HasCheckedDeck, HasTree, HasNoDeckOf, HasNoTree, IsFinding}
 use Rattle.umpire.specs.Refusals.{refusal_text}
 use Rattle.um_report.specs.Verdicts.{verdict_text}
-use Rattle.umpire.specs.Words.{is_file_name}
+use Rattle.umpire.specs.Words.{is_plain}
 use Rattle.umpire.specs.declared.ending.Ending.{Ending}
 use Rattle.umpire.specs.declared.ending.Ending.TheVariants.{Judged, Refused}
 use Rattle.umpire.specs.declared.outcome.Refusal.{Refusal}
@@ -31,7 +31,7 @@ pub record CheckNames : Type 0 where
 
 -- the files that the words `check DECK TREE` name; other words are not this command
 abbrev pub check_of : List (List ℕ) → Option CheckNames
-check_of (command ∷ deck ∷ tree ∷ []) = if bytes_eq command (codes "check") && is_file_name deck && is_file_name tree then Some (record { deck = deck; tree = tree }) else None
+check_of (command ∷ deck ∷ tree ∷ []) = if bytes_eq command (codes "check") && is_plain deck && is_plain tree then Some (record { deck = deck; tree = tree }) else None
 check_of words = None
 
 -- the files that are asked for: the deck, then the tree

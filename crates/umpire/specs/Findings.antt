@@ -10,8 +10,9 @@ use Rattle.um_model.specs.declared.verdict.Verdict.TheVariants.{Yes}
 use Rattle.um_statements.specs.declared.fault.Fault.TheVariants as deck
 use Rattle.um_mps.specs.DeckText.{DeckText, DeckFault}
 use Rattle.um_mps.specs.declared.reader.ReadFault.{ReadFault}
-use Rattle.um_search.specs.Answers.{TellsRun}
 use Rattle.um_search.specs.Conditions.{IsSearched}
+use Rattle.um_search.specs.Told.{TellsSearch}
+use Rattle.um_search.specs.declared.budget.Budget.{Budget}
 use Rattle.umpire.specs.CheckedDecks.{IsChecked}
 use Rattle.um_treetext.specs.declared.fault.TreeFault.{TreeFault}
 use Rattle.um_treetext.specs.declared.fault.TreeWord.TheVariants as tree
@@ -100,8 +101,8 @@ pub record IsFinding (d : DeckValue) (a : AnswerValue) (v : Verdict) : Type 0 wh
 
 -- ---- the answer
 
--- the answer is accepted by the checker, and right, and tells the run of the dual simplex method that it comes from, within 10,000,000 pivots
-pub record Answers (d : DeckValue) (a : AnswerValue) : Type 0 where
+-- the answer is accepted by the checker, and right, and tells the search that it comes from, within the budget
+pub record Answers (d : DeckValue) (budget : Budget) (a : AnswerValue) : Type 0 where
   pub accepted : IsAccepted d a
   pub right : IsRight d a
-  pub run : TellsRun d 10000000 a
+  pub search : TellsSearch d budget a

@@ -3,6 +3,7 @@ pub mod Refusals
 pub mod Endings
 pub mod Calls
 pub mod CheckRuns
+pub mod SolveWords
 pub mod SolveRuns
 pub mod PrintRuns
 pub mod Stops

@@ -9,7 +9,7 @@ use Rattle.um_make.specs.NormalLines.{normal_text}
 use Rattle.umpire.specs.Calls.{ComesTo, MakesNoFile, AsksInOrder}
 use Rattle.umpire.specs.Findings.{HasDeck, HasNoDeck}
 use Rattle.umpire.specs.Refusals.{refusal_text}
-use Rattle.umpire.specs.Words.{is_file_name}
+use Rattle.umpire.specs.Words.{is_plain}
 use Rattle.umpire.specs.declared.ending.Ending.{Ending}
 use Rattle.umpire.specs.declared.ending.Ending.TheVariants.{Printed, Refused}
 use Rattle.umpire.specs.declared.outcome.Refusal.{Refusal}
@@ -21,7 +21,7 @@ use Rattle.umpire.specs.declared.reading.Stop.TheVariants as stop
 
 -- the deck's file that the words `print DECK` name; other words are not this command
 abbrev pub print_of : List (List ℕ) → Option (List ℕ)
-print_of (command ∷ deck ∷ []) = if bytes_eq command (codes "print") && is_file_name deck then Some deck else None
+print_of (command ∷ deck ∷ []) = if bytes_eq command (codes "print") && is_plain deck then Some deck else None
 print_of words = None
 
 -- the file that is asked for

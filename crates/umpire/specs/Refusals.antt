@@ -4,7 +4,8 @@ use Rattle.um_statements.specs.declared.fault.Fault.{Fault}
 use Rattle.um_statements.specs.declared.fault.Fault.TheVariants as deck
 use Rattle.um_treetext.specs.declared.fault.TreeWord.{TreeWord}
 use Rattle.um_treetext.specs.declared.fault.TreeWord.TheVariants as tree
-use Rattle.umpire.specs.declared.outcome.WordFault.TheVariants.{Line}
+use Rattle.umpire.specs.declared.outcome.WordFault.{WordFault}
+use Rattle.umpire.specs.declared.outcome.WordFault.TheVariants as words
 use Rattle.umpire.specs.declared.outcome.Refusal.{Refusal}
 use Rattle.umpire.specs.declared.outcome.Refusal.TheVariants.{Words, LowTolerance, Deck, Tree}
 
@@ -45,6 +46,11 @@ deck_word deck.TwiceWeight = codes "TwiceWeight"
 deck_word deck.NotYet = codes "NotYet"
 deck_word deck.Memory = codes "Memory"
 
+abbrev pub fault_word : WordFault → List ℕ
+fault_word words.Line = codes "Line"
+fault_word words.Nodes = codes "Nodes"
+fault_word words.Pivots = codes "Pivots"
+
 abbrev pub tree_word : TreeWord → List ℕ
 tree_word tree.NoEnd = codes "NoEnd"
 tree_word tree.BadWord = codes "BadWord"
@@ -57,7 +63,7 @@ tree_word tree.Memory = codes "Memory"
 
 -- what was refused, why, and for a file at which line
 abbrev pub refusal_text : Refusal → List ℕ
-refusal_text (Words Line) = line (codes "words refused: Line")
+refusal_text (Words fault) = line (codes "words refused: " ++ fault_word fault)
 refusal_text (LowTolerance least) = line (codes "words refused: LowTolerance")
 refusal_text (Deck fault) = line (codes "deck refused: " ++ deck_word fault.fault ++ codes " at line " ++ decimal fault.line)
 refusal_text (Tree fault) = line (codes "tree refused: " ++ tree_word fault.fault ++ codes " at line " ++ decimal fault.line)

@@ -2,9 +2,10 @@
 use Rattle.std.specs.Prelude.{◌≡◌, ℕ, List, Option, Some, None}
 use Rattle.um_outside.specs.Scenes.{Scene}
 use Rattle.um_outside.specs.Sinks.{SinkScene}
-use Rattle.umpire.specs.Calls.{ComesTo}
+use Rattle.umpire.specs.Calls.{CallPromise, ComesTo}
 use Rattle.umpire.specs.CheckRuns.{check_of, CheckRan}
-use Rattle.umpire.specs.SolveRuns.{solve_of, SolveRan}
+use Rattle.umpire.specs.SolveWords.{solve_of}
+use Rattle.umpire.specs.SolveRuns.{SolveRan}
 use Rattle.umpire.specs.PrintRuns.{print_of, PrintRan}
 use Rattle.umpire.specs.Endings.{outcome_of}
 use Rattle.umpire.specs.Refusals.{refusal_text}
@@ -13,10 +14,6 @@ use Rattle.umpire.specs.declared.ending.Ending.TheVariants.{Refused}
 use Rattle.umpire.specs.declared.outcome.Outcome.{Outcome}
 use Rattle.umpire.specs.declared.outcome.Refusal.TheVariants.{Words}
 use Rattle.umpire.specs.declared.outcome.WordFault.TheVariants.{Line}
-
--- what a call does to the desk and the output, by how it ends
-abbrev pub CallPromise : Type 1
-CallPromise = Ending → Scene → Scene → SinkScene → SinkScene → Type 0
 
 -- where the words are this command its promise holds, and else what follows
 abbrev pub by_command : {Names : Type 0} → Option Names → (Names → CallPromise) → CallPromise → CallPromise

@@ -1,5 +1,5 @@
--- What the command `solve DECK` or `solve DECK --tree FILE` does: it solves the deck, writes the tree that proves the answer to the file, if one is asked for, and reports the answer.
-use Rattle.std.specs.Prelude.{◌≡◌, ℕ, ◌⊎◌, ◌&&◌, List, [], ◌∷◌, Option, Some, None, option_map, if◌then◌else◌, codes, bytes_eq}
+-- What the command `solve DECK [--nodes N] [--pivots N] [--tree FILE]` does: it solves the deck within the budget that is asked for, writes the tree that proves the answer to the file, if one is asked for, and reports the answer.
+use Rattle.std.specs.Prelude.{◌≡◌, ℕ, ◌⊎◌, List, [], ◌∷◌, Option, Some, None, Result, Ok, Err}
 use Rattle.um_outside.specs.Scenes.{Scene, Asked, to_open, to_create}
 use Rattle.um_outside.specs.Desks.{WentWell, ChangesOnly}
 use Rattle.um_outside.specs.Sinks.{SinkScene}
@@ -8,41 +8,30 @@ use Rattle.um_model.specs.Values.{DeckValue}
 use Rattle.um_model.specs.AnswerValues.{AnswerValue, plain_answer}
 use Rattle.um_model.specs.declared.answer.Answer.{Answer}
 use Rattle.um_search.specs.Conditions.{IsSearched}
-use Rattle.umpire.specs.Calls.{ComesTo, MakesNoFile, AsksInOrder}
+use Rattle.um_search.specs.declared.budget.Budget.{Budget}
+use Rattle.umpire.specs.Calls.{CallPromise, ComesTo, MakesNoFile, AsksInOrder}
 use Rattle.umpire.specs.Findings.{HasSearchedDeck, HasNoDeckOf, Answers}
 use Rattle.umpire.specs.Refusals.{refusal_text}
 use Rattle.um_report.specs.Reports.{report_text}
 use Rattle.um_treetext.specs.TreeText.{tree_text}
-use Rattle.umpire.specs.Words.{is_file_name}
+use Rattle.umpire.specs.SolveWords.{SolveLine, budget_said}
 use Rattle.umpire.specs.declared.ending.Ending.{Ending}
 use Rattle.umpire.specs.declared.ending.Ending.TheVariants.{Answered, Refused, WithoutMemory}
 use Rattle.umpire.specs.declared.outcome.Refusal.{Refusal}
-use Rattle.umpire.specs.declared.outcome.Refusal.TheVariants.{Deck}
-use Rattle.umpire.specs.declared.commands.solve.SolveFiles.{SolveFiles}
+use Rattle.umpire.specs.declared.outcome.Refusal.TheVariants.{Deck, Words}
+use Rattle.umpire.specs.declared.outcome.WordFault.{WordFault}
 use Rattle.umpire.specs.declared.reading.Stop.{Stop}
 use Rattle.umpire.specs.declared.reading.Stop.TheVariants as stop
 
--- ---- the words
-
--- the name of the deck's file, and of that for the tree where one is asked for
-pub record SolveNames : Type 0 where
-  pub deck : List ℕ
-  pub tree : Option (List ℕ)
-
--- the files that the words `solve DECK` or `solve DECK --tree FILE` name; other words are not this command
-abbrev pub solve_of : List (List ℕ) → Option SolveNames
-solve_of (command ∷ deck ∷ []) = if bytes_eq command (codes "solve") && is_file_name deck then Some (record { deck = deck; tree = None }) else None
-solve_of (command ∷ deck ∷ option ∷ tree ∷ []) =
-    if bytes_eq command (codes "solve") && is_file_name deck && bytes_eq option (codes "--tree") && is_file_name tree then Some (record { deck = deck; tree = Some tree }) else None
-solve_of words = None
+-- ---- the files
 
 abbrev pub tree_file : Option (List ℕ) → List Asked
 tree_file None = []
 tree_file (Some name) = to_create name ∷ []
 
 -- the files that are asked for: the deck, and then, once, the tree's
-abbrev pub solve_files : SolveNames → List Asked
-solve_files names = to_open names.deck ∷ tree_file names.tree
+abbrev pub solve_files : SolveLine → List Asked
+solve_files line = to_open line.deck ∷ tree_file line.tree
 
 -- ---- what is due
 
@@ -52,41 +41,41 @@ WritesTree None text s t = t ≡ s
 WritesTree (Some name) text s t = WroteWhole name text s t
 
 -- the answer to the deck of this file, which was read; its tree was written whole to the file that was asked for; and the text is its report
-pub record Solves (names : SolveNames) (a : Answer) (text : List ℕ) (s t : Scene) : Type 0 where
+pub record Solves (line : SolveLine) (budget : Budget) (a : Answer) (text : List ℕ) (s t : Scene) : Type 0 where
   pub between : Scene
   pub deck : DeckValue
-  pub deck_read : HasSearchedDeck names.deck deck s between
-  pub answers : Answers deck (plain_answer a)
-  pub tree : WritesTree names.tree (tree_text deck (plain_answer a)) between t
+  pub deck_read : HasSearchedDeck line.deck deck s between
+  pub answers : Answers deck budget (plain_answer a)
+  pub tree : WritesTree line.tree (tree_text deck (plain_answer a)) between t
   pub report : text ≡ report_text deck (plain_answer a)
 
 -- what was read before this refusal
-abbrev pub SolveRefuses : SolveNames → Refusal → Scene → Scene → Type 0
-SolveRefuses names (Deck fault) s t = HasNoDeckOf IsSearched names.deck fault s t
-SolveRefuses names other s t = ⊥
+abbrev pub SolveRefuses : SolveLine → Refusal → Scene → Scene → Type 0
+SolveRefuses line (Deck fault) s t = HasNoDeckOf IsSearched line.deck fault s t
+SolveRefuses line other s t = ⊥
 
 -- the report of the answer, or the line of a refusal
-abbrev pub SolveDue : SolveNames → Scene → Scene → Ending → List ℕ → Type 0
-SolveDue names s t (Answered a) text = Solves names a text s t
-SolveDue names s t (Refused r) text = (text ≡ refusal_text r) × SolveRefuses names r s t
-SolveDue names s t other text = ⊥
+abbrev pub SolveDue : SolveLine → Budget → Scene → Scene → Ending → List ℕ → Type 0
+SolveDue line budget s t (Answered a) text = Solves line budget a text s t
+SolveDue line budget s t (Refused r) text = (text ≡ refusal_text r) × SolveRefuses line r s t
+SolveDue line budget s t other text = ⊥
 
 -- ---- how the desk fails
 
 -- at the tree's file, when the deck had been read and solved
-pub record FailsAtTreeFile (names : SolveNames) (s t : Scene) : Type 0 where
+pub record FailsAtTreeFile (line : SolveLine) (budget : Budget) (s t : Scene) : Type 0 where
   pub between : Scene
   pub deck : DeckValue
   pub answer : AnswerValue
   pub file : List ℕ
-  pub named : names.tree ≡ Some file
-  pub deck_read : HasSearchedDeck names.deck deck s between
-  pub answers : Answers deck answer
+  pub named : line.tree ≡ Some file
+  pub deck_read : HasSearchedDeck line.deck deck s between
+  pub answers : Answers deck budget answer
   pub fault : WriteFaulted file between t
 
 -- at the deck, and then the tree's file is not asked for, or at the tree's file
-abbrev pub SolveFails : SolveNames → Scene → Scene → Type 0
-SolveFails names s t = ReadFaulted names.deck s t ⊎ FailsAtTreeFile names s t
+abbrev pub SolveFails : SolveLine → Budget → Scene → Scene → Type 0
+SolveFails line budget s t = ReadFaulted line.deck s t ⊎ FailsAtTreeFile line budget s t
 
 -- ---- the whole command
 
@@ -95,39 +84,54 @@ abbrev pub MakesTree : Option (List ℕ) → Scene → Scene → Type 0
 MakesTree None s t = MakesNoFile s t
 MakesTree (Some name) s t = ChangesOnly name s.holds t.holds
 
-pub record SolveRan (names : SolveNames) (ending : Ending) (before after : Scene) (s t : SinkScene) : Type 0 where
-  pub comes : ComesTo (SolveDue names before after) (SolveFails names before after) ending before after s t
-  pub files : MakesTree names.tree before after
+-- the search within this budget
+pub record SearchRan (line : SolveLine) (budget : Budget) (ending : Ending) (before after : Scene) (s t : SinkScene) : Type 0 where
+  pub comes : ComesTo (SolveDue line budget before after) (SolveFails line budget before after) ending before after s t
+  pub files : MakesTree line.tree before after
   -- where no memory is found no file is made
   pub alone : ending ≡ WithoutMemory → MakesNoFile before after
-  pub asked : AsksInOrder (solve_files names) before after
+  pub asked : AsksInOrder (solve_files line) before after
+
+-- the line of a value that is refused
+abbrev pub ValueDue : WordFault → Ending → List ℕ → Type 0
+ValueDue fault (Refused r) text = (text ≡ refusal_text r) × (r ≡ Words fault)
+ValueDue fault other text = ⊥
+
+-- a value is out of its range: no file is asked for
+pub record ValueRefused (fault : WordFault) (ending : Ending) (before after : Scene) (s t : SinkScene) : Type 0 where
+  pub comes : ComesTo (ValueDue fault) ⊥ ending before after s t
+  pub unopened : after ≡ before
+
+-- where the values ask for a budget the promise for that budget holds, and else one of the two is refused
+abbrev pub by_budget : Result Budget WordFault → (Budget → CallPromise) → CallPromise
+by_budget (Ok budget) Promise = Promise budget
+by_budget (Err fault) Promise = ValueRefused fault
+
+abbrev pub SolveRan : SolveLine → CallPromise
+SolveRan line = by_budget (budget_said line) (SearchRan line)
 
 -- ---- the parts of the command, for private functions
 
 -- the desk has not failed, no file was made, and a front of these was asked for
-pub record SolveKeeps (names : SolveNames) (s t : Scene) : Type 0 where
+pub record SolveKeeps (line : SolveLine) (s t : Scene) : Type 0 where
   pub well : WentWell s t
   pub files : MakesNoFile s t
-  pub asked : AsksInOrder (solve_files names) s t
+  pub asked : AsksInOrder (solve_files line) s t
 
-pub record SolveFaulted (names : SolveNames) (s t : Scene) : Type 0 where
-  pub fails : SolveFails names s t
-  pub files : MakesTree names.tree s t
-  pub asked : AsksInOrder (solve_files names) s t
+pub record SolveFaulted (line : SolveLine) (budget : Budget) (s t : Scene) : Type 0 where
+  pub fails : SolveFails line budget s t
+  pub files : MakesTree line.tree s t
+  pub asked : AsksInOrder (solve_files line) s t
 
 -- the deck was solved, its tree written where that was asked for, and this is the report
-pub record HasSolved (names : SolveNames) (a : Answer) (report : List ℕ) (s t : Scene) : Type 0 where
-  pub solves : Solves names a report s t
+pub record HasSolved (line : SolveLine) (budget : Budget) (a : Answer) (report : List ℕ) (s t : Scene) : Type 0 where
+  pub solves : Solves line budget a report s t
   pub well : WentWell s t
-  pub files : MakesTree names.tree s t
-  pub asked : AsksInOrder (solve_files names) s t
+  pub files : MakesTree line.tree s t
+  pub asked : AsksInOrder (solve_files line) s t
 
 -- why there is no answer
-abbrev pub SolveStopped : SolveNames → Stop → Scene → Scene → Type 0
-SolveStopped names (stop.Refused r) s t = SolveRefuses names r s t × SolveKeeps names s t
-SolveStopped names stop.Fault s t = SolveFaulted names s t
-SolveStopped names stop.Memory s t = SolveKeeps names s t
-
--- the names that the program holds
-abbrev pub names_of : SolveFiles → SolveNames
-names_of files = record { deck = files.deck.now; tree = option_map (λ name. name.now) files.tree }
+abbrev pub SolveStopped : SolveLine → Budget → Stop → Scene → Scene → Type 0
+SolveStopped line budget (stop.Refused r) s t = SolveRefuses line r s t × SolveKeeps line s t
+SolveStopped line budget stop.Fault s t = SolveFaulted line budget s t
+SolveStopped line budget stop.Memory s t = SolveKeeps line s t

@@ -55,6 +55,12 @@ pub enum WordFault {
     /// They are no command.
     #[error("Line")]
     Line,
+    /// The number of nodes is no whole numeral from 1 to 100,000.
+    #[error("Nodes")]
+    Nodes,
+    /// The number of pivots is no whole numeral from 1 to 10,000,000.
+    #[error("Pivots")]
+    Pivots,
 }
 
 /// What was refused. Want of memory is no refusal.
@@ -64,7 +70,7 @@ pub enum Refusal {
     /// The tolerance asked for is below the least that the deck allows, in thousandths.
     LowTolerance { least: i64 },
     /// The first rule that a deck's text breaks, and its line. Line 0 is the whole file: it is too
-    /// long, it is empty, or its deck is one that is not solved and checked yet.
+    /// long, it is empty, or its deck is one that the command does not solve or check yet.
     Deck(ReadFault),
     /// The first rule that a tree's text breaks, and its line. Line 0 is the whole file: it is too
     /// long, or it has no whole line.

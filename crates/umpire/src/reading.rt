@@ -96,7 +96,8 @@ fn deck_of(alloc: Global, bytes: &[u8]) -> Result<Deck, Stop>
     }
 }
 
-/// The deck that a file is the text of, where it is searched. Another deck is refused as `NotYet` at line 0.
+/// The deck that a file is the text of, where it is searched. Another deck, as one with a set, an arc, a
+/// semicontinuous column or an infinite end, is refused as `NotYet` at line 0.
 pub(crate) fn read_searched<D: Desk>(alloc: Global, desk: &mut D, name: &str) -> Result<Deck, Stop>
     requires idle { (D.scene desk.old).mode ≡ Idle }
     requires going { (D.scene desk.old).stopped ≡ false }
@@ -111,7 +112,8 @@ pub(crate) fn read_searched<D: Desk>(alloc: Global, desk: &mut D, name: &str) ->
     }
 }
 
-/// The deck that a file is the text of, where its trees are checked. Another deck is refused as `NotYet` at line 0.
+/// The deck that a file is the text of, where its trees are checked. Another deck, as one with an arc or an
+/// infinite end, is refused as `NotYet` at line 0.
 pub(crate) fn read_checked<D: Desk>(alloc: Global, desk: &mut D, name: &str) -> Result<Deck, Stop>
     requires idle { (D.scene desk.old).mode ≡ Idle }
     requires going { (D.scene desk.old).stopped ≡ false }

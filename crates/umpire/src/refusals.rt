@@ -1,7 +1,7 @@
 //! The lines of refusals.
 
 ghost use Rattle.std.specs.Prelude.{◌≡◌, IfOk, string_bytes};
-ghost use Rattle.umpire.specs.Refusals.{refusal_text, deck_word, tree_word};
+ghost use Rattle.umpire.specs.Refusals.{refusal_text, deck_word, fault_word, tree_word};
 
 use crate::outcome::{Refusal, WordFault};
 use std::alloc::{AllocError, Global};
@@ -22,7 +22,10 @@ fn refusal_string(alloc: Global, refusal: &Refusal) -> Result<String, AllocError
     ensures { IfOk result (λ line. string_bytes line ≡ refusal_text refusal.now) }
 {
     match refusal {
-        Refusal::Words(WordFault::Line) => format!(in alloc; "words refused: Line\n"),
+        Refusal::Words(fault) => {
+            let word = fault_word(*fault);
+            format!(in alloc; "words refused: {word}\n")
+        }
         Refusal::LowTolerance { least: _ } => { format!(in alloc; "words refused: LowTolerance\n") }
         Refusal::Deck(ReadFault { line, fault }) => {
             let word = deck_word(*fault);
@@ -70,6 +73,16 @@ fn deck_word(fault: Fault) -> &'static str
         Fault::TwiceWeight => "TwiceWeight",
         Fault::NotYet => "NotYet",
         Fault::Memory => "Memory",
+    }
+}
+
+fn fault_word(fault: WordFault) -> &'static str
+    ensures { result.now ≡ fault_word fault }
+{
+    match fault {
+        WordFault::Line => "Line",
+        WordFault::Nodes => "Nodes",
+        WordFault::Pivots => "Pivots",
     }
 }
 

@@ -6,7 +6,9 @@ ghost use Rattle.um_outside.specs.MemoryDesks.{scene_of};
 ghost use Rattle.um_outside.specs.MemorySinks.{told_of};
 
 mod checking;
+mod options;
 mod printing;
+mod searches;
 mod solving;
 mod texts;
 mod trees;
@@ -110,7 +112,6 @@ fn refusals(rt: HostRuntime) -> Result<(), Fail> {
         "solve deck tree",
         "solve deck --tree",
         "solve deck --tree -tree",
-        "solve deck --nodes tree",
         "check -deck tree",
         "check deck ",
     ] {

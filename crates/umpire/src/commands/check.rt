@@ -10,7 +10,7 @@ ghost use Rattle.umpire.specs.Findings.{IsFinding};
 use crate::ending::Ending;
 use crate::reading::{Stop, read_checked, read_tree};
 use crate::saying::{give_up, tell};
-use crate::words::is_file_name;
+use crate::words::is_plain;
 use std::alloc::Global;
 use um_check::Checker;
 use um_deck::Deck;
@@ -32,7 +32,7 @@ pub fn files_of(words: &[String]) -> Option<CheckFiles<'_>>
         return None;
     };
     let (deck, tree) = (deck.as_str(), tree.as_str());
-    if command.as_str() == "check" && is_file_name(deck) && is_file_name(tree) {
+    if command.as_str() == "check" && is_plain(deck) && is_plain(tree) {
         Some(CheckFiles { deck, tree })
     } else {
         None

@@ -7,7 +7,7 @@ ghost use Rattle.umpire.specs.PrintRuns.{print_of, HasPrinted, PrintRan, PrintSt
 use crate::ending::Ending;
 use crate::reading::{Stop, read_deck};
 use crate::saying::{give_up, say};
-use crate::words::is_file_name;
+use crate::words::is_plain;
 use std::alloc::Global;
 use um_make::print as normal_text;
 use um_num::List;
@@ -20,7 +20,7 @@ pub fn file_of(words: &[String]) -> Option<&str>
     let [command, deck] = words else {
         return None;
     };
-    if command.as_str() == "print" && is_file_name(deck.as_str()) {
+    if command.as_str() == "print" && is_plain(deck.as_str()) {
         Some(deck.as_str())
     } else {
         None

@@ -4,7 +4,6 @@
 
 use super::solving::NO_POINT;
 use super::texts::changed;
-use super::trees::{WHOLE, WHOLE_TREE};
 use super::{DECK, TREE, YES, call, says, status_of};
 use crate::Status;
 use std::alloc::Global;
@@ -190,11 +189,11 @@ fn damaged(rt: HostRuntime) -> Result<(), Fail> {
 #[test]
 fn cut(rt: HostRuntime) -> Result<(), Fail> {
     // A front of a tree's text ends behind its last whole line.
-    for most in 0..WHOLE_TREE.len() {
-        let front = &WHOLE_TREE[..most];
+    for most in 0..TREE.len() {
+        let front = &TREE[..most];
         let lines = front.iter().filter(|byte| **byte == b'\n').count();
         let line = format!(in rt.alloc(); "tree refused: NoEnd at line {lines}\n")?;
-        let told = call(rt.alloc(), "check deck tree", WHOLE, front)?;
+        let told = call(rt.alloc(), "check deck tree", DECK, front)?;
         says(&rt, &told, Status::Refused, line.as_bytes());
     }
     Ok(())

@@ -1,6 +1,6 @@
 //! The command `solve` over a desk and a sink in memory.
 
-use super::texts::DECKS;
+use super::texts::{DECKS, changed};
 use super::{DECK, TREE, Told, call, desk_of, says, words_of};
 use crate::{Status, run};
 use std::alloc::Global;
@@ -8,7 +8,7 @@ use std::test::Fail;
 use um_num::List;
 use um_outside::MemorySink;
 
-const REPORT: &[u8] =
+pub(super) const REPORT: &[u8] =
     b"Optimal\nobjective -6\nbound -6\ntolerance 0.000\nnodes 1\npivots 1\ncolumn x 2\ncolumn y 2\n";
 
 /// The rows and columns of `DECK` with a side of -1, so that no point satisfies the row.
@@ -186,6 +186,28 @@ fn refused(rt: HostRuntime) -> Result<(), Fail> {
     let text = b"deck refused: UnknownSection at line 1\n";
     let solving = solve(rt.alloc(), &DECK[1..])?;
     says(&rt, &solving.told, Status::Refused, text);
+    Ok(())
+}
+
+/// Decks that break no rule and are not searched yet: with a set, a semicontinuous column, an arc, and without a
+/// high or a low end. Each is `DECK` with a text in the place of another.
+const UNTAKEN: [(&str, &str); 5] = [
+    ("ENDATA\n", "SOS\n S1 s\n x 1\n y 2\nENDATA\n"),
+    (" UP BND x 3\n", " SC BND x 3\n"),
+    ("ENDATA\n", "ARCS\n Q COST x 1\nENDATA\n"),
+    (" UP BND x 3\n", " PL BND x\n"),
+    (" LO BND y 0\n", " MI BND y\n"),
+];
+
+#[test]
+fn untaken(rt: HostRuntime) -> Result<(), Fail> {
+    for (old, new) in UNTAKEN {
+        let deck = changed(rt.alloc(), DECK, old, new)?;
+        let solving = solve(rt.alloc(), deck.as_bytes())?;
+        let text = b"deck refused: NotYet at line 0\n";
+        says(&rt, &solving.told, Status::Refused, text);
+        assert_eq!(rt; solving.tree.as_slice(), b"".as_slice());
+    }
     Ok(())
 }
 

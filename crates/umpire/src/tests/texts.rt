@@ -2,7 +2,6 @@
 //!
 //! The decks and trees were worked out beforehand, by the same rules.
 
-use super::trees::WHOLE;
 use super::{DECK, TREE, YES, call, says, status_of};
 use crate::Status;
 use std::alloc::Global;
@@ -93,6 +92,10 @@ pub(super) const DECKS: [(&str, &str); 20] = [
     ),
 ];
 
+/// min -5x - 4y; 6x + 4y <= 24; x + 2y <= 6; integers in [0,10].
+const ROW2: &[u8] =
+    b"NAME ROW2\nROWS\n N COST\n L R1\n L R2\nCOLUMNS\n M1 'MARKER' 'INTORG'\n x COST -5 R1 6\n x R2 1\n y COST -4 R1 4\n y R2 2\n M2 'MARKER' 'INTEND'\nRHS\n RHS R1 24 R2 6\nBOUNDS\n UP BND x 10\n UP BND y 10\nENDATA\n";
+
 /// A deck, what stands in it, what takes its place, and what is said of the deck with a tree for it.
 const CHANGED_DECKS: [(&[u8], &str, &str, &str); 17] = [
     (DECK, "NAME ROW1\n", "* a deck\n\nNAME  ROW1 two\n", YES),
@@ -125,7 +128,7 @@ const CHANGED_DECKS: [(&[u8], &str, &str, &str); 17] = [
     ),
     (DECK, " UP BND x 3\n", " SC BND x 3\n", YES),
     (
-        WHOLE,
+        ROW2,
         " L R1\n",
         " L R1\n",
         "tree refused: WrongDeck at line 2\n",
@@ -143,21 +146,21 @@ const CHANGED_DECKS: [(&[u8], &str, &str, &str); 17] = [
         "ARCS\n Q COST x 1\nENDATA\n",
         "deck refused: NotYet at line 0\n",
     ),
-    (WHOLE, "ENDATA\n", "", "deck refused: NoEnd at line 17\n"),
+    (ROW2, "ENDATA\n", "", "deck refused: NoEnd at line 17\n"),
     (
-        WHOLE,
+        ROW2,
         " UP BND x 10\n",
         "",
         "deck refused: NotFinite at line 17\n",
     ),
     (
-        WHOLE,
+        ROW2,
         " x R2 1\n",
         " x R1 1\n",
         "deck refused: TwiceEntry at line 9\n",
     ),
     (
-        WHOLE,
+        ROW2,
         "RHS\n",
         "RHZ\n",
         "deck refused: UnknownSection at line 13\n",

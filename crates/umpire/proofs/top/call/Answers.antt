@@ -1,6 +1,6 @@
 use Rattle.std.proofs.Common.{sym, map, string_bytes}
 use Rattle.umpire.specs.CheckRuns as check
-use Rattle.umpire.specs.SolveRuns as solve
+use Rattle.umpire.specs.SolveWords as solve
 use Rattle.umpire.proofs.Calls.{as_check, as_solve, as_print, as_words}
 use Rattle.umpire.proofs.top.call.Goals as goal
 
@@ -10,7 +10,7 @@ returns-in-Some g c =
 
 pub returns-in-Some-files_of : goal.returns-in-Some-files_of
 returns-in-Some-files_of g c =
-    as_solve (map string_bytes c.args.words.now) c.solve.result (g.D.Desk.scene c.args.desk.now) (g.D.Desk.scene c.solve.new.desk) (g.O.Sink.told c.args.out.now) (g.O.Sink.told c.solve.new.out) (solve.names_of c.in-Some-files_of.files) (sym c.in_default.ensures) (sym c.in-Some-files_of.ensures) c.solve.ensures
+    as_solve (map string_bytes c.args.words.now) c.solve.result (g.D.Desk.scene c.args.desk.now) (g.D.Desk.scene c.solve.new.desk) (g.O.Sink.told c.args.out.now) (g.O.Sink.told c.solve.new.out) (solve.line_of c.in-Some-files_of.files) (sym c.in_default.ensures) (sym c.in-Some-files_of.ensures) c.solve.ensures
 
 pub returns-in-Some-file_of : goal.returns-in-Some-file_of
 returns-in-Some-file_of g c =
