@@ -1,1 +1,2 @@
+pub mod RootIntervals
 pub mod SomeColumn

@@ -2,6 +2,7 @@
 
 mod bounds;
 mod boxes;
+mod branches;
 mod calls;
 mod limits;
 mod numbers;
@@ -9,9 +10,11 @@ mod order;
 mod points;
 mod script;
 mod shown;
+mod splits;
 
 use bounds::BOUNDS;
 use boxes::{NESTS, Nest, PLANT_NESTS, deck_of, is_shown, steps_hold};
+use branches::{BRANCHES, asked, may_be_asked};
 use calls::CALLS;
 use limits::LIMITS;
 use numbers::NUMBERS;
@@ -19,6 +22,7 @@ use order::ORDER;
 use points::{POINTS, is_small_point};
 use script::tell;
 use shown::Shown;
+use splits::{SPLITS, box_of, split_at};
 use std::alloc::Global;
 use std::test::Fail;
 use um_box::NodeBox;
@@ -111,6 +115,38 @@ fn nests_of_plants(rt: HostRuntime) -> Result<(), Fail> {
     for nest in PLANT_NESTS {
         let holds = nest_holds(rt.alloc(), nest).expect(&rt, "a deck");
         assert!(rt; holds, "{}", nest.0);
+    }
+    Ok(())
+}
+
+#[test]
+fn splits_of_sets(rt: HostRuntime) -> Result<(), Fail> {
+    for (script, step, cases) in SPLITS {
+        let deck = deck_of(rt.alloc(), script.as_bytes()).expect(&rt, "a deck");
+        let node = box_of(rt.alloc(), &deck, step)?;
+        for (parts, want) in *cases {
+            let found = split_at(rt.alloc(), &deck, &node, parts)?;
+            assert!(rt; found == Some(*want), "{parts:?} of {script}");
+        }
+    }
+    Ok(())
+}
+
+#[test]
+fn branches_of_decks(rt: HostRuntime) -> Result<(), Fail> {
+    for (script, cases) in BRANCHES {
+        let deck = deck_of(rt.alloc(), script.as_bytes()).expect(&rt, "a deck");
+        let node = NodeBox::root(rt.alloc(), &deck)?;
+        for (den, parts, branch) in *cases {
+            let parts = List::from_slice(rt.alloc(), parts)?;
+            let point = Point { den: *den, parts };
+            assert!(rt; is_small_point(&deck, &point));
+            assert!(rt; may_be_asked(&deck, &point));
+            assert!(rt;
+                asked(&deck, &node, &point) == *branch,
+                "{branch:?} of {script}"
+            );
+        }
     }
     Ok(())
 }

@@ -70,7 +70,7 @@ pub fn steps_hold(
 }
 
 /// The branch and the side of a step.
-fn step_of(step: &str) -> Option<(Branch, Side)> {
+pub fn step_of(step: &str) -> Option<(Branch, Side)> {
     let mut words = step.split(' ');
     let kind = words.next()?;
     let place = words.next()?.parse().ok()?;

@@ -1,0 +1,11 @@
+pub mod ChildBoxes
+pub mod Cuts
+pub mod FirstSets
+pub mod Floors
+pub mod MemberSums
+pub mod PassedNumbers
+pub mod Reached
+pub mod SemiLows
+pub mod Splits
+pub mod Stretching
+pub mod Thresholds
