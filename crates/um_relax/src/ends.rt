@@ -1,7 +1,6 @@
 //! The ends of a box on a board.
 
-ghost use Rattle.std.specs.Prelude.{◌≡◌, ◌+◌, ◌<◌, length};
-ghost use Rattle.um_deck.specs.Decks.{HasNoSetsOrArcs};
+ghost use Rattle.std.specs.Prelude.{◌≡◌, ◌+◌, ◌<◌, [], length};
 ghost use Rattle.um_model.specs.Boxes.{IsVoid};
 ghost use Rattle.std.specs.Option.{ForSome};
 ghost use Rattle.um_lp.specs.Boards.{AreOrdered};
@@ -31,7 +30,7 @@ pub enum Reboxed {
 /// then. The relaxation stays as it is, as a deck without arcs has no grid.
 pub fn rebox<B: Board>(relaxation: &mut Relaxation, board: &mut B, node: &NodeBox<'_>) -> Reboxed
     requires relaxed { IsRelaxationOf node.now.deck relaxation.old }
-    requires no_sets_or_arcs { HasNoSetsOrArcs node.now.deck }
+    requires no_arcs { node.now.deck.arcs ≡ [] }
     requires stands { StandsFor node.now.deck (B.state board.old) }
     requires full { ¬ IsVoid node.now.deck node.now.limits }
     requires wanted { WantsFiniteEnds node.now.deck node.now.limits (B.state board.old) }

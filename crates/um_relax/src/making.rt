@@ -1,7 +1,6 @@
 //! The relaxation of a deck.
 
-ghost use Rattle.std.specs.Prelude.{◌≡◌, ◌++◌, ℤ, map, false, IfOk};
-ghost use Rattle.um_deck.specs.Decks.{HasNoSetsOrArcs};
+ghost use Rattle.std.specs.Prelude.{◌≡◌, [], ◌++◌, ℤ, map, false, IfOk};
 ghost use Rattle.um_num.specs.Listed.{Listed};
 ghost use Rattle.um_lp.specs.Relaxations.{IsRelaxation, frame_of};
 ghost use Rattle.um_model.specs.declared.deck.Column.{Column};
@@ -16,9 +15,9 @@ use um_deck::{Column, Deck, Entry, Row};
 use um_lp::{Relaxation, Term};
 use um_num::{List, Memory};
 
-/// The relaxation of a deck without sets and arcs. The error is want of memory.
+/// The relaxation of a deck without arcs. The error is want of memory.
 pub fn build(alloc: Global, deck: &Deck) -> Result<Relaxation, Memory>
-    requires { HasNoSetsOrArcs deck.now }
+    requires { deck.now.arcs ≡ [] }
     ensures relaxed { IfOk result (IsRelaxationOf deck.now) }
     ensures sizes { IfOk result IsRelaxation }
     ensures frame { IfOk result (λ relaxation. frame_of relaxation ≡ deck_frame deck.now) }

@@ -48,8 +48,8 @@ module _ (d : DeckValue) (b : BoxValue) (before : State) (pivots : ℕ) (s : Sta
       subst (λ (ps : List Price). HasRisingRows (length d.rows) ps) (sym h.rows) (rising_prices (length d.rows) h.numbers count)
 
 pub vertex-law : VertexLaw
-vertex-law d b before pivots s p y without stands h =
-    let on = on_box d b before pivots s without stands h.run in
+vertex-law d b before pivots s p y no_arcs stands h =
+    let on = on_box d b before pivots s no_arcs stands h.run in
     let (value, value_is, bound_is) = strong-duality-law d b s on in
     record {
       holds = subst (HoldsOnBox d b) (sym h.point) (FeasibleVertex.vertex-law d b s on h.ended);
@@ -61,8 +61,8 @@ vertex-law d b before pivots s p y without stands h =
     }
 
 pub empty-law : EmptyLaw
-empty-law d b before pivots s y without stands h =
-    let empties = farkas-law d b s h.row y (on_box d b before pivots s without stands h.run) h.ended h.multipliers in
+empty-law d b before pivots s y no_arcs stands h =
+    let empties = farkas-law d b s h.row y (on_box d b before pivots s no_arcs stands h.run) h.ended h.multipliers in
     record {
       empties = empties;
       sign = record { y0 = (let y0 = empties.y0 in omega (arith, ints)); ended = subst IsEnded (sym empties.value_is) tt };

@@ -1,6 +1,6 @@
 -- What a run on a board keeps.
 use Rattle.std.proofs.Common.{◌≡◌, ◌∙◌, ℕ, ◌<◌, zero, suc, Result, Ok, Err, ap, subst}
-use Rattle.std.specs.Prelude.{ℤ, List, Option, None, slice_index_or, IfOk}
+use Rattle.std.specs.Prelude.{ℤ, List, [], Option, None, slice_index_or, IfOk}
 use Rattle.um_num.specs.declared.Memory.{Memory}
 use Rattle.um_model.specs.Values.{DeckValue}
 use Rattle.um_model.specs.Boxes.{BoxValue}
@@ -11,7 +11,6 @@ use Rattle.um_duality.specs.Boxed.{IsBoxed}
 use Rattle.um_duality.specs.Laws.{IsOnBox}
 use Rattle.um_duality.specs.Relaxed.{StandsFor}
 use Rattle.um_relax.specs.Reboxings.{AreReboxed, BoxedWhole}
-use Rattle.um_deck.specs.Decks.{HasNoSetsOrArcs}
 use Rattle.um_solving.specs.Endings.{EndedAs, HasEndedAs}
 use Rattle.um_solving.specs.Solvings.{IsReady, IsRun}
 use Rattle.um_solving.specs.declared.node.NodeEnd.{NodeEnd}
@@ -60,8 +59,8 @@ pub run_stands : (d : DeckValue) (b : BoxValue) (before : State) (pivots : ℕ) 
 run_stands d b before pivots s h run = steps_stand d pivots run.ready s (reboxed_stands d b (width before.frame) before run.ready h run.is_ready.ends) run.steps
 
 -- a run ends on the box
-pub on_box : (d : DeckValue) (b : BoxValue) (before : State) (pivots : ℕ) (s : State) → HasNoSetsOrArcs d → StandsFor d before → IsRun d b before pivots s → IsOnBox d b s
-on_box d b before pivots s without h run = record { arcs = without.arcs; board = run.board; stands = run_stands d b before pivots s h run; boxed = run.on; feasible = run.feasible }
+pub on_box : (d : DeckValue) (b : BoxValue) (before : State) (pivots : ℕ) (s : State) → d.arcs ≡ [] → StandsFor d before → IsRun d b before pivots s → IsOnBox d b s
+on_box d b before pivots s no_arcs h run = record { arcs = no_arcs; board = run.board; stands = run_stands d b before pivots s h run; boxed = run.on; feasible = run.feasible }
 
 -- the ends of the box were put on the board
 pub ready_of : (d : DeckValue) (b : BoxValue) (before s : State) → BoxedWhole d b before s → IsReady d b before s

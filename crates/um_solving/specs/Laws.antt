@@ -1,8 +1,9 @@
 -- What the next node may rest on, and what a vertex and its multipliers mean for the deck.
-use Rattle.std.specs.Prelude.{◌≡◌, ℕ, ◌<◌, ◌^◌, ℤ, pos, ◌<ℤ◌, length, All, Some}
-use Rattle.um_model.specs.Values.{DeckValue, ColumnValue, PointValue}
-use Rattle.um_model.specs.WellFormed.{HasTwoEnds}
-use Rattle.um_model.specs.Boxes.{BoxValue, root, ends_of}
+use Rattle.std.specs.Prelude.{◌≡◌, ℕ, ◌<◌, ◌^◌, ℤ, pos, ◌≤ℤ◌, ◌<ℤ◌, [], length, All, Some}
+use Rattle.um_model.specs.Values.{DeckValue, ColumnValue, SetValue, PointValue}
+use Rattle.um_model.specs.WellFormed.{AtPlace, HasTwoEnds, IsDeck}
+use Rattle.um_model.specs.Feasible.{part, AllPlaces, IntegerHolds, SemiHolds, SetHolds, member_parts, Feasible}
+use Rattle.um_model.specs.Boxes.{BoxValue, root, span_at, ends_of, ZeroOutside, IsVoid}
 use Rattle.um_model.specs.Branches.{Fits, child}
 use Rattle.um_model.specs.Objective.{objective}
 use Rattle.um_model.specs.LeafValue.{leaf_value, leaf_bound, Empties}
@@ -14,12 +15,12 @@ use Rattle.um_model.specs.declared.leaf.Leaf.TheVariants.{Value}
 use Rattle.um_multipliers.specs.NormalForm.{HasRisingRows}
 use Rattle.um_multipliers.specs.PlainMultipliers.{MultipliersValue}
 use Rattle.um_multipliers.specs.Sizes.{AreBelow}
-use Rattle.um_deck.specs.Decks.{HasNoSetsOrArcs}
 use Rattle.um_lp.specs.States.{State}
 use Rattle.um_lp.specs.Boards.{IsBoard, IsStart}
 use Rattle.um_duality.specs.Laws.{HoldsOnBox}
 use Rattle.um_duality.specs.Relaxed.{StandsFor, deck_frame}
 use Rattle.um_relax.specs.Reboxings.{WantsFiniteEnds}
+use Rattle.um_solving.specs.RootBoxes.{IsWithinRoot}
 use Rattle.um_solving.specs.Solvings.{IsRun, AtVertex, WithoutPoint, StoppedBy}
 
 -- ---- boxes with finite ends
@@ -35,6 +36,31 @@ RootLaw = (d : DeckValue) → All (λ (c : ColumnValue). HasTwoEnds c.low c.high
 -- The children of a branch that fits have two finite ends for each column, where the box has.
 abbrev pub ChildLaw : Type 0
 ChildLaw = (d : DeckValue) (b : BoxValue) (branch : Branch) (side : Side) → Fits d b branch → HasEnds d b → HasEnds d (child d b branch side)
+
+-- ---- the root box
+
+-- The root box of a well-formed deck is not void.
+abbrev pub FullRootLaw : Type 0
+FullRootLaw = (d : DeckValue) → IsDeck d → ¬ IsVoid d (root d)
+
+-- The root box lies within itself.
+abbrev pub RootWithinLaw : Type 0
+RootWithinLaw = (d : DeckValue) → IsWithinRoot d (root d)
+
+-- The children of a branch that fits lie within the root box, where the box does.
+abbrev pub ChildWithinLaw : Type 0
+ChildWithinLaw = (d : DeckValue) (b : BoxValue) (branch : Branch) (side : Side) → IsDeck d → Fits d b branch → IsWithinRoot d b → IsWithinRoot d (child d b branch side)
+
+-- A point that satisfies the rows within the ends of a box is feasible, where the integer columns are whole, each semicontinuous column is 0 or at least its threshold, and the sets keep their rules.
+abbrev pub FeasibleLaw : Type 0
+FeasibleLaw =
+    (d : DeckValue) (b : BoxValue) (p : PointValue) → IsDeck d → IsWithinRoot d b → HoldsOnBox d b p → AllPlaces (IntegerHolds p) d.columns → AllPlaces (SemiHolds p) d.columns → AllPlaces (SetHolds p) d.sets → Feasible d p
+
+-- At a point within the ends of such a box the members of each set are at least 0, and 0 outside the set's interval.
+abbrev pub MembersLaw : Type 0
+MembersLaw =
+    (d : DeckValue) (b : BoxValue) (p : PointValue) (set : ℕ) (s : SetValue) → IsDeck d → IsWithinRoot d b → HoldsOnBox d b p → AtPlace d.sets set s
+    → ((position : ℕ) → pos 0 ≤ℤ part (member_parts p s) position) × ZeroOutside p (span_at b set) s
 
 -- ---- the next node
 
@@ -66,7 +92,7 @@ pub record VertexSays (d : DeckValue) (b : BoxValue) (p : PointValue) (y : Multi
 -- What a node says that ended at a vertex.
 abbrev pub VertexLaw : Type 0
 VertexLaw =
-    (d : DeckValue) (b : BoxValue) (before : State) (pivots : ℕ) (s : State) (p : PointValue) (y : MultipliersValue) → HasNoSetsOrArcs d → StandsFor d before
+    (d : DeckValue) (b : BoxValue) (before : State) (pivots : ℕ) (s : State) (p : PointValue) (y : MultipliersValue) → d.arcs ≡ [] → StandsFor d before
     → AtVertex d b before pivots s p y → VertexSays d b p y
 
 -- the multipliers are those of rows of the deck and show that the box has no feasible point; their sign and leaf value are as an empty leaf asks
@@ -77,7 +103,7 @@ pub record EmptySays (d : DeckValue) (b : BoxValue) (y : MultipliersValue) : Typ
 
 -- What a node says that ended without a point.
 abbrev pub EmptyLaw : Type 0
-EmptyLaw = (d : DeckValue) (b : BoxValue) (before : State) (pivots : ℕ) (s : State) (y : MultipliersValue) → HasNoSetsOrArcs d → StandsFor d before → WithoutPoint d b before pivots s y → EmptySays d b y
+EmptyLaw = (d : DeckValue) (b : BoxValue) (before : State) (pivots : ℕ) (s : State) (y : MultipliersValue) → d.arcs ≡ [] → StandsFor d before → WithoutPoint d b before pivots s y → EmptySays d b y
 
 -- the multipliers are small and those of rows of the deck, and the objective's is above 0, as an open leaf asks
 pub record OwnSays (d : DeckValue) (y : MultipliersValue) : Type 0 where

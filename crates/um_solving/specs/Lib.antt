@@ -1,3 +1,4 @@
 pub mod Endings
 pub mod Laws
+pub mod RootBoxes
 pub mod Solvings

@@ -4,9 +4,10 @@
 //! before left it, takes steps of the dual simplex method, and reads what they ended at: a vertex with
 //! multipliers, multipliers that show that the box has no point, or why it stopped early. The board's
 //! basis stays, so that the next node begins where this one ended. [`laws`] says what a caller may rest
-//! on: that the next node may begin there, and what a vertex and its multipliers mean for the deck.
+//! on: that the next node may begin there, what a vertex and its multipliers mean for the deck, and when a
+//! point of a box is feasible.
 //!
-//! For now of decks without sets and arcs, whose columns have two finite ends in the box.
+//! For now of decks without arcs, whose columns have two finite ends in the box.
 #![tactic(auto)]
 
 pub mod laws;

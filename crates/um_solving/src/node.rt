@@ -1,7 +1,6 @@
 //! The relaxation of a node's box, solved on a board.
 
-ghost use Rattle.std.specs.Prelude.{◌≡◌, ◌-◌, ◌≤◌, IfOk};
-ghost use Rattle.um_deck.specs.Decks.{HasNoSetsOrArcs};
+ghost use Rattle.std.specs.Prelude.{◌≡◌, ◌-◌, ◌≤◌, [], IfOk};
 ghost use Rattle.um_duality.specs.Relaxed.{StandsFor, deck_frame};
 ghost use Rattle.um_lp.specs.Boards.{IsBoard};
 ghost use Rattle.um_lp.specs.DualSteps.{IsNext, Ended as HasEnded, NoPoint, IsDualFeasible};
@@ -47,7 +46,7 @@ pub fn solve_node<B: Board>(
     left: &mut u64,
 ) -> Result<NodeEnd, Memory>
     requires formed { IsDeck node.now.deck }
-    requires no_sets_or_arcs { HasNoSetsOrArcs node.now.deck }
+    requires no_arcs { node.now.deck.arcs ≡ [] }
     requires relaxed { IsRelaxationOf node.now.deck relaxation.old }
     requires frame { frame_of relaxation.old ≡ deck_frame node.now.deck }
     requires board { IsBoard (B.state board.old) }
