@@ -1,5 +1,1 @@
-pub mod ChildBoxes
 pub mod EnteredBoxes
-pub mod FirstPlaces
-pub mod Floors
-pub mod PassedNumbers

@@ -1,3 +1,1 @@
-pub mod Branchings
-pub mod Laws
 pub mod NewChildren

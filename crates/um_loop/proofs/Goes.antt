@@ -1,6 +1,6 @@
 -- Where the solving of a node led: the search goes on, or it stopped in this turn.
 use Rattle.std.proofs.Common.{◌≡◌, ℕ, suc, ◌+◌, ◌-◌, ◌<◌, ◌≤◌, ◌^◌, pos, inl, inr, List, [], ◌∷◌, ◌++◌, length, Option, Some, None, refl, sym, ap, ◌∙◌, subst, arith, length-append}
-use Rattle.std.specs.Prelude.{IsSome, IsNone, IsSomeAnd, IfSome, option_map, unsigned_abs, Result, IfOk}
+use Rattle.std.specs.Prelude.{IsSome, IsNone, IfSome, option_map, unsigned_abs, Result, IfOk}
 use Rattle.std.proofs.lemmas.Int.{ints}
 use Rattle.um_laws.specs.Rational.{Rational}
 use Rattle.um_num.specs.declared.Memory.{Memory}
@@ -20,7 +20,6 @@ use Rattle.um_model.specs.declared.answer.Why.TheVariants as why
 use Rattle.um_model.specs.declared.branch.Branch.{Branch}
 use Rattle.um_model.specs.declared.tree.Solved.{Solved}
 use Rattle.um_soundness.proofs.Objectives.{objective-law}
-use Rattle.um_deck.specs.Decks.{HasNoSetsOrArcs}
 use Rattle.um_lp.specs.States.{State}
 use Rattle.um_duality.specs.Relaxed.{StandsFor}
 use Rattle.um_cover.specs.Nodes.{EmptyIs, IsImproved, OpenIs}
@@ -38,8 +37,7 @@ use Rattle.um_solving.specs.Solvings.{AtVertex, WithoutPoint, StoppedBy}
 use Rattle.um_solving.specs.declared.node.NodeEnd.{NodeEnd}
 use Rattle.um_solving.specs.declared.node.NodeEnd.TheVariants as end
 use Rattle.um_solving.proofs.Goings.{next-law}
-use Rattle.um_solving.proofs.NodeReadings.{vertex-law, empty-law, stopped-law}
-use Rattle.um_turns.specs.Branching.{IsBranchAt, AsksForNone}
+use Rattle.um_split.specs.Branchings.{IsBranchOf, AsksForNone}
 use Rattle.um_turns.specs.Turns.{Turn, TurnEnd, Reached, Emptied, Halted, HaltHolds, EndHolds, kept_multipliers}
 use Rattle.um_turns.specs.Histories.{History, IsBest}
 use Rattle.um_turns.specs.NextTurns.{IsNoBetter}
@@ -48,24 +46,9 @@ use Rattle.um_loop.specs.declared.search.Search.{Search}
 use Rattle.um_loop.specs.declared.search.Halt.{Halt}
 use Rattle.um_loop.specs.Goings.{IsGoing, HasTaken, HaltedAt, WentOn, GoesOn}
 use Rattle.um_loop.specs.Steps.{IsBestOf, IsNotClosing, HasOwn, IsKept, StoppedWith, ClosedAtVertex, BranchedAtVertex, StoppedAtGrid, VertexLed, AfterVertex, EndSays, HasSettled, emptied_search, with_best}
-use Rattle.um_loop.proofs.KeysClose.{key_closes, key_bound, vertex_closes}
+use Rattle.um_loop.proofs.KeysClose.{key_closes, key_bound, new_below, vertex_closes}
 use Rattle.um_loop.proofs.Results.{ok_map}
 use Rattle.um_loop.proofs.Settled.{own_waits, halts, leaf_goes, split_goes}
-
--- ---- what is known of the numbers with which a node ended
-
-own_says : (d : DeckValue) (b : BoxValue) (before : State) (pivots left number : ℕ) (cause : Why) (own : Option MultipliersValue) → StandsFor d before → StoppedBy d b before pivots left number cause own → IfSome own (OwnSays d)
-own_says d b before pivots left number cause None stands h = tt
-own_says d b before pivots left number cause (Some y) stands h = stopped-law d b before pivots left number cause y stands h
-
-own_plain : (d : DeckValue) (own : Option Multipliers) → IfSome (option_map plain_multipliers own) (OwnSays d) → IfSome own (λ y. OwnSays d (plain_multipliers y))
-own_plain d None h = tt
-own_plain d (Some y) h = h
-
-pub end_says : (d : DeckValue) (b : BoxValue) (before : State) (pivots left number : ℕ) (e : NodeEnd) (after : State) → HasNoSetsOrArcs d → StandsFor d before → EndedAs d b before pivots left number e after → EndSays d b e
-end_says d b before pivots left number (end.Vertex point y) after plain stands h = (h.1, h.2, vertex-law d b before pivots after (plain_point point) (plain_multipliers y) plain stands h.0)
-end_says d b before pivots left number (end.Empty y) after plain stands h = (h.1, empty-law d b before pivots after (plain_multipliers y) plain stands h.0)
-end_says d b before pivots left number (end.Stopped cause own) after plain stands h = own_plain d own (own_says d b before pivots left number cause (option_map plain_multipliers own) stands h)
 
 -- a stop of the run is one of the turn
 halt_of : (d : DeckValue) (b : BoxValue) (t : Turn) (pivots number : ℕ) (cause : Why) (own : Option MultipliersValue) → StoppedBy d b t.before pivots t.left number cause own → HaltHolds d b t pivots number cause own
@@ -111,12 +94,7 @@ best_holds d p y old new history n (inr b) end_is k =
 
 -- where the key of the vertex does not close the node, the best point stays
 best_kept : (d : DeckValue) (b : BoxValue) (p : PointValue) (y : MultipliersValue) (k : Key) (old new : Option Incumbent) → IsBestOf d p old new → VertexSays d b p y → KeyIs (leaf_value d b y) y.y0 k → IsNotClosing d new k → new ≡ old
-best_kept d b p y k old new (inl n) says is none =
-    let here : IsSomeAnd (objective_of (Some n.best)) (λ v. IsAtMost v (objective d p)) = subst (λ (x : Rational). IsAtMost x (objective d p)) (sym n.objective_is) (self (objective d p)) in
-    absurd (vertex_closes d b p y k new says is (subst (λ (o : Option Incumbent). IsSomeAnd (objective_of o) (λ v. IsAtMost v (objective d p))) (sym n.new_is) here) none)
-  where
-    self : (x : Rational) → IsAtMost x x
-    self x = omega (arith, ints)
+best_kept d b p y k old new (inl n) says is none = absurd (vertex_closes d b p y k new says is (new_below d p old new n) none)
 best_kept d b p y k old new (inr o) says is none = o.same
 
 -- at most one entry waits for a child
@@ -169,11 +147,11 @@ module _ (d : DeckValue) (start : State) (most : ℕ) (taken : OpenNode) (s : Se
               begins = begins;
             }
 
-        branched_on : (k : Key) (asked : Option Branch) (x : Search) → KeyIs (leaf_value d box y) y.y0 k → IfSome asked (IsBranchAt d p) → IfSome asked (Fits d box) → BranchedAtVertex d box (with_best counted_search best) taken.node solved asked y k x → WentOn d start most s x after (left - pivots)
+        branched_on : (k : Key) (asked : Option Branch) (x : Search) → KeyIs (leaf_value d box y) y.y0 k → IfSome asked (IsBranchOf d p) → IfSome asked (Fits d box) → BranchedAtVertex d box (with_best counted_search best) taken.node solved asked y k x → WentOn d start most s x after (left - pivots)
         branched_on k asked x key_is is fits c =
             let h = c.branched in
             let kept : best ≡ s.incumbent = best_kept d box p y k s.incumbent best best_is says key_is c.open_still in
-            let is_at : IsBranchAt d p c.branch = subst (λ (o : Option Branch). IfSome o (IsBranchAt d p)) c.asked_is is in
+            let is_at : IsBranchOf d p c.branch = subst (λ (o : Option Branch). IfSome o (IsBranchOf d p)) c.asked_is is in
             let fits_at : Fits d box c.branch = subst (λ (o : Option Branch). IfSome o (Fits d box)) c.asked_is fits in
             let first = h.first_is (objective_of best) (pos 0) in
             let second = h.second_is (objective_of best) (pos 0) in
@@ -211,7 +189,7 @@ module _ (d : DeckValue) (start : State) (most : ℕ) (taken : OpenNode) (s : Se
             subst (λ (z : Search). HaltedAt d start most z halt after (left - pivots)) (ap (with_best counted_search) (sym kept) ∙ sym c.same)
             (halts d start most taken s board left t pivots after cause within run halt (Some y) (ap (λ (z : Why). Halted z (Some y)) (sym c.cause)) c.node_is (c.number_is ∙ ap (λ (z : Solved). Some z) solved_is) few (own_waits d start most taken s board left t halt.hand y own below says.positive) c.multipliers)
 
-        led_on : (k : Key) (asked : Option Branch) (halt : Option Halt) (x : Search) → KeyIs (leaf_value d box y) y.y0 k → unsigned_abs k.value < 2 ^ 126 → IfSome asked (IsBranchAt d p) → (IsNone asked → AsksForNone d p) → IfSome asked (Fits d box)
+        led_on : (k : Key) (asked : Option Branch) (halt : Option Halt) (x : Search) → KeyIs (leaf_value d box y) y.y0 k → unsigned_abs k.value < 2 ^ 126 → IfSome asked (IsBranchOf d p) → (IsNone asked → AsksForNone d p) → IfSome asked (Fits d box)
             → VertexLed d box (with_best counted_search best) taken.node solved asked y k halt x → GoesOn d start most s halt x after (left - pivots)
         led_on k asked None x key_is key_size is none fits (inl c) = closed_on k x key_is c
         led_on k asked None x key_is key_size is none fits (inr c) = branched_on k asked x key_is is fits c
@@ -250,7 +228,7 @@ module _ (d : DeckValue) (start : State) (most : ℕ) (taken : OpenNode) (s : Se
 
     -- ---- however it ended
     goes : (e : NodeEnd) (halt : Option Halt) (x : Search) → EndSays d box e → EndedAs d box board pivots left (suc (length history)) e after → HasSettled d box counted_search taken solved e halt x → GoesOn d start most s halt x after (left - pivots)
-    goes (end.Vertex point y) halt x says ended c = vertex_goes (plain_point point) (plain_multipliers y) says.0 says.1 says.2 ended.0 halt x c
+    goes (end.Vertex point y) halt x says ended c = vertex_goes (plain_point point) (plain_multipliers y) says.small says.below says.says ended.0 halt x c
     goes (end.Empty y) halt x says ended c = empty_goes (plain_multipliers y) halt x says.0 says.1 ended.0 c.0 c.1
     goes (end.Stopped cause own) halt x says ended c = stop_goes cause (option_map plain_multipliers own) halt x (own_all own says) ended c
       where
@@ -259,13 +237,12 @@ module _ (d : DeckValue) (start : State) (most : ℕ) (taken : OpenNode) (s : Se
         own_all (Some y) h = h
 
   -- the whole of it: the node got the next number, and was settled as its run ended
-  pub solved_goes : HasNoSetsOrArcs d → StandsFor d board → s.solved < 100000 → (pivots : ℕ) → pivots ≤ left → (after : State) (e : NodeEnd) → EndedAs d box board pivots left (s.solved + 1) e after → (r : Result (Option Halt) Memory) (x : Search)
+  pub solved_goes : StandsFor d board → s.solved < 100000 → (pivots : ℕ) → pivots ≤ left → (after : State) (e : NodeEnd) → EndSays d box e → EndedAs d box board pivots left (s.solved + 1) e after → (r : Result (Option Halt) Memory) (x : Search)
       → IfOk r (λ halt. HasSettled d box counted_search taken (record { number = s.solved + 1; pivots = pivots }) e halt x) → IfOk r (λ halt. GoesOn d start most s halt x after (left - pivots))
-  solved_goes plain stands few pivots within after e ended r x settled =
+  solved_goes stands few pivots within after e says ended r x settled =
       let counted = t.going.solved in
       let next : s.solved + 1 ≡ suc (length history) = omega (arith, counted) in
       let solved : Solved = record { number = s.solved + 1; pivots = pivots } in
       let solved_is : solved ≡ record { number = suc (length history); pivots = pivots } = λ i. record { number = next i; pivots = pivots } in
       let run = subst (λ (n : ℕ). EndedAs d box board pivots left n e after) next ended in
-      let says = end_says d box board pivots left (s.solved + 1) e after plain stands ended in
       ok_map (λ (halt : Option Halt). HasSettled d box counted_search taken solved e halt x) (λ (halt : Option Halt). GoesOn d start most s halt x after (left - pivots)) r (λ halt c. goes pivots after within few stands solved solved_is e halt x says run c) settled

@@ -59,7 +59,7 @@ stopped_keeps d b before taken solved cause own (Some halt) after all c = subst 
 
 -- however the node ended
 settled_keeps : (d : DeckValue) (b : BoxValue) (before : Search) (taken : OpenNode) (solved : Solved) (e : NodeEnd) (halt : Option Halt) (after : Search) → taken.node < length before.growth.nodes → EndSays d b e → AreCheckable d before.growth → HasSettled d b before taken solved e halt after → Keeps d before after
-settled_keeps d b before taken solved (end.Vertex point y) halt after inside says all c = led_keeps d b (with_best before c.best) taken.node solved c.asked (plain_multipliers y) c.key halt after inside says.2.rising all c.led
+settled_keeps d b before taken solved (end.Vertex point y) halt after inside says all c = led_keeps d b (with_best before c.best) taken.node solved c.asked (plain_multipliers y) c.key halt after inside says.says.rising all c.led
 settled_keeps d b before taken solved (end.Empty y) halt after inside says all c =
     let node : NodeValue = record { solved = Some solved; what = Empty (plain_multipliers y) } in
     subst (Keeps d before) (sym c.1) (checkable_on d before.growth taken.node node says.1.rising all, refl)

@@ -1,10 +1,11 @@
 -- A key that closes a node, and the multipliers that it goes with.
-use Rattle.std.proofs.Common.{◌≡◌, ℤ, pos, negsuc, ◌<ℤ◌, [], ◌∷◌, Option, Some, None, refl, sym, ap, ◌∙◌, subst, arith}
+use Rattle.std.proofs.Common.{◌≡◌, ℤ, pos, negsuc, ◌<ℤ◌, [], ◌∷◌, Option, Some, None, inl, inr, refl, sym, ap, ◌∙◌, subst, arith}
 use Rattle.std.specs.Prelude.{IsSomeAnd, unsigned_abs, ◌<◌, ◌^◌}
 use Rattle.std.proofs.lemmas.Int.{ints}
 use Rattle.um_laws.specs.Rational.{Rational}
 use Rattle.um_multipliers.specs.PlainMultipliers.{MultipliersValue}
 use Rattle.um_model.specs.Values.{DeckValue, PointValue}
+use Rattle.um_model.specs.Feasible.{Feasible}
 use Rattle.um_model.specs.Objective.{objective}
 use Rattle.um_model.specs.Boxes.{BoxValue}
 use Rattle.um_model.specs.LeafValue.{leaf_value, leaf_bound, Closes, Reaches}
@@ -19,7 +20,7 @@ use Rattle.um_progress.specs.declared.incumbent.Incumbent.{Incumbent}
 use Rattle.um_progress.specs.Waits.{KeyIs}
 use Rattle.um_progress.specs.Searches.{objective_of}
 use Rattle.um_solving.specs.Laws.{VertexSays}
-use Rattle.um_loop.specs.Steps.{IsClosing, IsNotClosing}
+use Rattle.um_loop.specs.Steps.{IsNewBest, IsBestOf, IsClosing, IsNotClosing}
 
 -- ---- what a key with a bound says of a leaf value
 
@@ -58,6 +59,20 @@ module _ (d : DeckValue) (b : BoxValue) (y : MultipliersValue) (k : Key) (placed
       ap (λ (l : Leaf). bound_in d y.y0 l ∷ []) has.value_is
       ∙ ap (λ (z : ℤ). Some (leaf_bound d z k.value) ∷ []) (sym has.y0_is)
       ∙ ap (λ (r : Rational). Some r ∷ []) (sym closing.bound_is)
+
+-- ---- the best point behind a feasible one is not above it
+
+self : (x : Rational) → IsAtMost x x
+self x = omega (arith, ints)
+
+pub new_below : (d : DeckValue) (p : PointValue) (old new : Option Incumbent) → IsNewBest d p old new → IsSomeAnd (objective_of new) (λ v. IsAtMost v (objective d p))
+new_below d p old new n =
+    let here : IsAtMost n.best.objective (objective d p) = subst (λ (x : Rational). IsAtMost x (objective d p)) (sym n.objective_is) (self (objective d p)) in
+    subst (λ (o : Option Incumbent). IsSomeAnd (objective_of o) (λ v. IsAtMost v (objective d p))) (sym n.new_is) here
+
+pub best_below : (d : DeckValue) (p : PointValue) (old new : Option Incumbent) → IsBestOf d p old new → Feasible d p → IsSomeAnd (objective_of new) (λ v. IsAtMost v (objective d p))
+best_below d p old new (inl n) feasible = new_below d p old new n
+best_below d p old new (inr o) feasible = subst (λ (x : Option Incumbent). IsSomeAnd (objective_of x) (λ v. IsAtMost v (objective d p))) (sym o.same) (o.above feasible)
 
 -- ---- a vertex that is not below the best point
 

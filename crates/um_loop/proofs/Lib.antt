@@ -8,5 +8,7 @@ pub mod Checkables
 pub mod Keepings
 pub mod Usables
 pub mod Results
+pub mod EndedNodes
+pub mod GridStops
 pub mod Settled
 pub mod Goes

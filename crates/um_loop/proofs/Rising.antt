@@ -7,7 +7,6 @@ use Rattle.um_model.specs.Values.{DeckValue, PointValue}
 use Rattle.um_model.specs.Boxes.{BoxValue}
 use Rattle.um_model.specs.declared.answer.Why.{Why}
 use Rattle.um_model.specs.declared.answer.Why.TheVariants as why
-use Rattle.um_deck.specs.Decks.{HasNoSetsOrArcs}
 use Rattle.um_lp.specs.States.{State}
 use Rattle.um_duality.specs.Relaxed.{StandsFor}
 use Rattle.um_solving.specs.Solvings.{IsRun, AtVertex}
@@ -60,7 +59,7 @@ module _ (d : DeckValue) (g : GrowthValue) where
   stands_at_end s left (m ∷ ms) st c f runs = stands_at_end m.told.after (left - m.pivots) ms (stands_after s m st c.0 (runs 0 m refl f.0)) c.3 f.1 (λ j. runs (suc j))
 
 -- ---- what is handed on, and what is read
-module _ (d : DeckValue) (plain : HasNoSetsOrArcs d) (start : State) (most : ℕ) (g : GrowthValue) (history : History) (told : IsHistory d start most g history) (finished : AreFinished history) where
+module _ (d : DeckValue) (plain : d.arcs ≡ []) (start : State) (most : ℕ) (g : GrowthValue) (history : History) (told : IsHistory d start most g history) (finished : AreFinished history) where
   runs : AllRan d g history
   runs k n e f = run_at d (box_at d g n.id) n.told n.pivots (suc k) n.told.end f (told.holds k n e).run
 

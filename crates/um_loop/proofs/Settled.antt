@@ -22,7 +22,7 @@ use Rattle.um_progress.specs.Waits.{IsFresh, KeyIs, WaitsIn}
 use Rattle.um_progress.specs.Searches.{objective_of, IsSearch, ChildIs, Settles}
 use Rattle.um_progress.proofs.Settling.{settles_search}
 use Rattle.um_progress.proofs.Parting.{part_act}
-use Rattle.um_turns.specs.Branching.{IsBranchAt}
+use Rattle.um_split.specs.Branchings.{IsBranchOf}
 use Rattle.um_turns.specs.Turns.{Turn, TurnEnd, Reached, Halted, EndHolds, Became, IsFinished, kept_multipliers}
 use Rattle.um_turns.specs.Histories.{History, IsHanded, IsBest, left_behind}
 use Rattle.um_turns.specs.NextTurns.{IsNextTurn, AreUnder}
@@ -150,7 +150,7 @@ module _ (d : DeckValue) (start : State) (most : ℕ) (taken : OpenNode) (s : Se
             }
 
         -- as a split
-        module _ (p : PointValue) (y : MultipliersValue) (end_is : end ≡ Reached p y) (branch : Branch) (fits : Fits d box branch) (asked : IsBranchAt d p branch) (few : s.solved < 100000) (found : IsSome best → IsSome s.least) where
+        module _ (p : PointValue) (y : MultipliersValue) (end_is : end ≡ Reached p y) (branch : Branch) (fits : Fits d box branch) (asked : IsBranchOf d p branch) (few : s.solved < 100000) (found : IsSome best → IsSome s.least) where
           module _ (l r : NodeValue) (more_left more_right : List OpenNode) (cl : ChildIs d (objective_of best) (pos 0) (left_box d box branch) (length s.growth.nodes) l more_left) (cr : ChildIs d (objective_of best) (pos 0) (right_box d box branch) (suc (length s.growth.nodes)) r more_right) (ul : AreUnder y more_left) (ur : AreUnder y more_right) where
             became : Became d handed end (Split branch)
             became = subst (λ (e : TurnEnd). Became d handed e (Split branch)) (sym end_is) asked

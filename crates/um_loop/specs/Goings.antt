@@ -2,6 +2,7 @@
 use Rattle.std.specs.Prelude.{◌≡◌, ℕ, suc, ◌+◌, ◌-◌, ◌<◌, ◌≤◌, pos, ◌⊎◌, [], length, Option, Some, None, IsSome}
 use Rattle.um_multipliers.specs.PlainMultipliers.{MultipliersValue, plain_multipliers}
 use Rattle.um_model.specs.Values.{DeckValue}
+use Rattle.um_model.specs.declared.answer.Why.{Why}
 use Rattle.um_model.specs.declared.answer.Why.TheVariants as why
 use Rattle.um_lp.specs.States.{State}
 use Rattle.um_tree.specs.Growths.{origin_at}
@@ -48,6 +49,11 @@ pub record HasTaken (d : DeckValue) (start : State) (most : ℕ) (taken : OpenNo
   pub handed : IsHanded going.history (origin_at s.growth taken.node) (plain_multipliers taken.y)
 
 -- ---- an early stop
+
+-- the cause is no limit of the grid
+abbrev pub IsNoGrid : Why → Type 0
+IsNoGrid (why.Grid number) = ⊥
+IsNoGrid other = Unit {0}
 
 -- all nodes of the budget are solved, and the one in hand got no number
 pub record HasSpent (d : DeckValue) (start : State) (most nodes : ℕ) (s : Search) (halt : Halt) (board : State) (left : ℕ) : Type 0 where

@@ -25,7 +25,8 @@ use Rattle.um_progress.specs.declared.incumbent.Incumbent.{Incumbent}
 use Rattle.um_progress.specs.Waits.{KeyIs}
 use Rattle.um_progress.specs.Searches.{objective_of, IsLesser, ChildIs}
 use Rattle.um_children.specs.NewChildren.{IsNewNode}
-use Rattle.um_turns.specs.Branching.{IsBranchAt, AsksForNone}
+use Rattle.um_split.specs.Branchings.{IsBranchOf, AsksForNone}
+use Rattle.um_split.specs.Laws.{IsPointOf}
 use Rattle.um_turns.specs.NextTurns.{AreUnder}
 use Rattle.um_loop.specs.declared.search.Search.{Search}
 use Rattle.um_loop.specs.declared.search.Halt.{Halt}
@@ -140,7 +141,7 @@ pub record AfterVertex (d : DeckValue) (b : BoxValue) (before : Search) (id : �
   pub best : Option Incumbent
   pub best_is : IsBestOf d p before.incumbent best
   pub asked : Option Branch
-  pub asked_is : IfSome asked (IsBranchAt d p)
+  pub asked_is : IfSome asked (IsBranchOf d p)
   pub none_is : IsNone asked → AsksForNone d p
   pub fits : IfSome asked (Fits d b)
   pub key : Key
@@ -150,9 +151,21 @@ pub record AfterVertex (d : DeckValue) (b : BoxValue) (before : Search) (id : �
 
 -- ---- a node that ended
 
+-- A vertex of a box, with its multipliers.
+--   small, below: their numbers are small
+--   says: what they mean for the deck
+--   point: it is a point of the box, so that the branch that it asks for fits the box
+--   feasible: it is feasible where it asks for none
+pub record IsVertex (d : DeckValue) (b : BoxValue) (p : PointValue) (y : MultipliersValue) : Type 0 where
+  pub small : IsSmallPoint p
+  pub below : AreBelow (2 ^ 40) y
+  pub says : VertexSays d b p y
+  pub point : IsPointOf d b p
+  pub feasible : AsksForNone d p → Feasible d p
+
 -- what is known of the numbers with which a node ended, from the run that they came from
 abbrev pub EndSays : DeckValue → BoxValue → NodeEnd → Type 0
-EndSays d b (end.Vertex point y) = IsSmallPoint (plain_point point) × AreBelow (2 ^ 40) (plain_multipliers y) × VertexSays d b (plain_point point) (plain_multipliers y)
+EndSays d b (end.Vertex point y) = IsVertex d b (plain_point point) (plain_multipliers y)
 EndSays d b (end.Empty y) = AreBelow (2 ^ 40) (plain_multipliers y) × EmptySays d b (plain_multipliers y)
 EndSays d b (end.Stopped cause own) = IfSome own (λ y. OwnSays d (plain_multipliers y))
 

@@ -3,13 +3,13 @@
 ghost use Rattle.std.specs.Prelude.{◌≡◌, ◌+◌, ◌≤◌, ◌<◌, [], length, option_map, IfOk, IfSome};
 ghost use Rattle.um_model.specs.Boxes.{root as root_of, IsVoid};
 ghost use Rattle.um_multipliers.specs.PlainMultipliers.{plain_multipliers};
-ghost use Rattle.um_deck.specs.Decks.{IsDeckNow, HasNoSetsOrArcs};
+ghost use Rattle.um_deck.specs.Decks.{IsDeckNow};
 ghost use Rattle.um_lp.specs.Relaxations.{frame_of};
 ghost use Rattle.um_duality.specs.Relaxed.{deck_frame};
 ghost use Rattle.um_relax.specs.Relaxations.{IsRelaxationOf};
 ghost use Rattle.um_solving.specs.Laws.{HasEnds, MayBegin, OwnSays};
 ghost use Rattle.um_loop.specs.Checkables.{AreCheckable};
-ghost use Rattle.um_loop.specs.Goings.{Beginning, IsGoing, HasTaken, GoesOn, HasRun};
+ghost use Rattle.um_loop.specs.Goings.{Beginning, IsGoing, HasTaken, GoesOn, HasRun, IsNoGrid};
 ghost use Rattle.um_loop.specs.Steps.{EndSays, HasSettled, HasOwn, HasStoppedAt};
 ghost use Rattle.um_tree.specs.Growths.{IsOpenAt};
 
@@ -29,7 +29,8 @@ use um_solving::{NodeEnd, solve_node};
 
 impl Search {
     /// Takes nodes until none waits, or the search stops early: at the budget of `nodes` with a node in
-    /// hand that is not solved, or in the solving of a node. The error is want of memory.
+    /// hand that is not solved, or in the solving of a node. For now of decks without arcs, where no limit of the
+    /// grid stops it. The error is want of memory.
     pub fn run<B: Board>(
         &mut self,
         alloc: Global,
@@ -40,7 +41,7 @@ impl Search {
         left: &mut u64,
     ) -> Result<Option<Halt>, Memory>
         ghost began: { Beginning }
-        requires plain { HasNoSetsOrArcs deck.now }
+        requires plain { deck.now.arcs ≡ [] }
         requires ends { HasEnds deck.now (root_of deck.now) }
         requires relaxed { IsRelaxationOf deck.now relaxation.old }
         requires frame { frame_of relaxation.old ≡ deck_frame deck.now }
@@ -52,6 +53,7 @@ impl Search {
         ensures run { IfOk result (λ halt. HasRun deck.now began.start began.most nodes halt self.new (B.state board.new) left.new) }
         ensures within { IfOk result (λ halt. self.new.solved ≤ nodes) }
         ensures checkable { IfOk result (λ halt. AreCheckable deck.now self.new.growth) }
+        ensures no_grid { IfOk result (λ halt. IfSome halt (λ h. IsNoGrid h.why)) }
     {
         deck.known();
         'nodes: loop {
@@ -83,7 +85,7 @@ impl Search {
         left: &mut u64,
     ) -> Result<Option<Halt>, Memory>
         ghost began: { Beginning }
-        requires plain { HasNoSetsOrArcs deck.now }
+        requires plain { deck.now.arcs ≡ [] }
         requires ends { HasEnds deck.now (root_of deck.now) }
         requires relaxed { IsRelaxationOf deck.now relaxation.old }
         requires frame { frame_of relaxation.old ≡ deck_frame deck.now }
@@ -95,6 +97,7 @@ impl Search {
         ensures goes { IfOk result (λ halt. GoesOn deck.now began.start began.most self.old halt self.new (B.state board.new) left.new) }
         ensures solved { IfOk result (λ halt. self.new.solved ≡ self.old.solved + 1) }
         ensures checkable { IfOk result (λ halt. AreCheckable deck.now self.new.growth) }
+        ensures no_grid { IfOk result (λ halt. IfSome halt (λ h. IsNoGrid h.why)) }
     {
         deck.known();
         let mut node = box_of(alloc, deck, &self.growth, taken.node)?;
@@ -118,9 +121,8 @@ impl Search {
         end: NodeEnd,
     ) -> Result<Option<Halt>, Memory>
         requires formed { IsDeckNow deck.now }
-        requires plain { HasNoSetsOrArcs deck.now }
+        requires plain { deck.now.arcs ≡ [] }
         requires same_deck { node.old.deck ≡ deck.now }
-        requires ends { HasEnds deck.now node.old.limits }
         requires full { ¬ IsVoid deck.now node.old.limits }
         requires place { IsOpenAt self.old.growth taken.node }
         requires room { length self.old.growth.nodes + 2 ≤ 200001 }

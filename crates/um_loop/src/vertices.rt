@@ -1,29 +1,28 @@
 //! A node that ended at a vertex.
 
 ghost use Rattle.std.specs.Prelude.{◌≡◌, ◌≤◌, ◌+◌, ◌<◌, ◌^◌, ◌<ℤ◌, ◌↔◌, [], length, pos, unsigned_abs, IsTrue, MatchOption, IfOk, IfSome};
-ghost use Rattle.um_model.specs.Accepted.{IsSmallPoint};
 ghost use Rattle.um_model.specs.Boxes.{IsVoid};
 ghost use Rattle.um_model.specs.Values.{plain_point};
 ghost use Rattle.um_multipliers.specs.PlainMultipliers.{plain_multipliers};
 ghost use Rattle.um_bound.specs.Usable.{AreUsable};
-ghost use Rattle.um_duality.specs.Laws.{HoldsOnBox};
+ghost use Rattle.um_deck.specs.Decks.{IsDeckNow};
 ghost use Rattle.um_model.specs.Branches.{Fits};
 ghost use Rattle.um_nodes.specs.Keys.{IsKey};
 ghost use Rattle.um_tree.specs.Growths.{IsOpenAt};
-ghost use Rattle.um_solving.specs.Laws.{HasEnds};
-ghost use Rattle.um_loop.specs.Steps.{IsClosing, IsNotClosing, VertexLed, AfterVertex};
+ghost use Rattle.um_loop.specs.Steps.{IsClosing, IsNotClosing, IsVertex, VertexLed, AfterVertex};
 
 use crate::acts::improve;
 use crate::search::{Halt, Search};
 use std::alloc::Global;
 use um_bound::{bound_of, closes};
 use um_box::NodeBox;
-use um_children::{branch_of, key_of};
+use um_children::key_of;
 use um_deck::Deck;
 use um_model::{Branch, Multipliers, Point, Solved, Why};
 use um_nodes::{Key, OpenNode};
 use um_num::{Frac, Memory};
 use um_progress::Incumbent;
+use um_split::branch_of;
 
 /// The bound of a key, where the key closes a node at the best point so far.
 pub(crate) fn closing(deck: &Deck, best: &Option<Incumbent>, key: &Key) -> Option<Frac>
@@ -52,8 +51,8 @@ pub fn is_endless(key: &Key) -> bool
 
 impl Search {
     /// The node in hand ended at this vertex, with these multipliers: the vertex is the best point then, where
-    /// it is better, and the node is closed or branched. Where it is neither, the search stops. The error is
-    /// want of memory.
+    /// it is better, and the node is closed or branched. Where it is neither, the search stops; without arcs that
+    /// does not come, as a vertex that asks for no branch is feasible. The error is want of memory.
     pub(crate) fn at_vertex(
         &mut self,
         alloc: Global,
@@ -64,20 +63,17 @@ impl Search {
         point: Point,
         y: Multipliers,
     ) -> Result<Option<Halt>, Memory>
+        requires formed { IsDeckNow deck.now }
         requires place { IsOpenAt self.old.growth taken.now.node }
         requires room { length self.old.growth.nodes + 2 ≤ 200001 }
         requires same_deck { node.old.deck ≡ deck.now }
-        requires ends { HasEnds deck.now node.old.limits }
         requires full { ¬ IsVoid deck.now node.old.limits }
         requires no_arcs { deck.now.arcs ≡ [] }
-        requires small { IsSmallPoint (plain_point point) }
-        requires holds { HoldsOnBox deck.now node.old.limits (plain_point point) }
-        requires usable { AreUsable (length deck.now.rows) (plain_multipliers y) }
-        requires y0 { pos 0 <ℤ y.y0 }
+        requires vertex { IsVertex deck.now node.old.limits (plain_point point) (plain_multipliers y) }
         ensures { IfOk result (λ halt. AfterVertex deck.now node.old.limits self.old taken.now.node solved (plain_point point) (plain_multipliers y) halt self.new) }
     {
         let key = key_of(deck, node, taken.key.id, taken.key.depth, &y);
-        let asked = branch_of(deck, &point);
+        let asked = branch_of(deck, node, &point);
         improve(deck, &mut self.incumbent, point);
         self.settle_vertex(alloc, deck, node, taken, solved, asked, key, y)
     }

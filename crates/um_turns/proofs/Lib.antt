@@ -5,6 +5,7 @@ pub mod Waiting
 pub mod Bests
 pub mod Acting
 pub mod Going
-pub mod Violations
 pub mod Orders
 pub mod Closing
+pub mod TreeWithin
+pub mod Vertices

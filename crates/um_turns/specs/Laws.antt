@@ -1,11 +1,11 @@
 -- What each act of a search keeps of its history.
-use Rattle.std.specs.Prelude.{◌≡◌, ℕ, suc, ◌+◌, ◌-◌, ℤ, pos, Bool, List, [], ◌∷◌, ◌++◌, length, Option, Some, None, IfSome}
+use Rattle.std.specs.Prelude.{◌≡◌, ℕ, suc, ◌+◌, ◌-◌, ◌<◌, ℤ, pos, Bool, List, [], ◌∷◌, ◌++◌, length, Option, Some, None, IfSome}
 use Rattle.um_laws.specs.Rational.{Rational}
 use Rattle.um_num.specs.Fractions.{IsBelow}
 use Rattle.um_multipliers.specs.PlainMultipliers.{MultipliersValue, plain_multipliers}
 use Rattle.um_model.specs.Values.{DeckValue, PointValue, plain_point}
-use Rattle.um_model.specs.Feasible.{Feasible, AllPlaces, IntegerHolds}
-use Rattle.um_model.specs.FirstBroken.{IsFirstFailure}
+use Rattle.um_model.specs.WellFormed.{IsDeck}
+use Rattle.um_model.specs.Feasible.{Feasible}
 use Rattle.um_model.specs.Objective.{objective}
 use Rattle.um_model.specs.Boxes.{BoxValue}
 use Rattle.um_model.specs.Branches.{left, right}
@@ -13,13 +13,17 @@ use Rattle.um_model.specs.LeafValue.{Closes}
 use Rattle.um_model.specs.Accepted.{IsAtMost}
 use Rattle.um_model.specs.AnswerValues.{NodeValue}
 use Rattle.um_model.specs.declared.branch.Branch.{Branch}
-use Rattle.um_model.specs.declared.branch.Branch.TheVariants.{Int}
 use Rattle.um_model.specs.declared.tree.Solved.{Solved}
 use Rattle.um_lp.specs.States.{State}
 use Rattle.um_lp.specs.Boards.{IsBoard, IsStart}
 use Rattle.um_duality.specs.Relaxed.{deck_frame}
-use Rattle.um_solving.specs.Laws.{MayBegin, VertexSays}
-use Rattle.um_tree.specs.Growths.{GrowthValue, origin_at, parted, settled}
+use Rattle.um_solving.specs.Laws.{HasEnds, MayBegin, VertexSays}
+use Rattle.um_solving.specs.RootBoxes.{IsWithinRoot}
+use Rattle.um_split.specs.Branchings.{IsBranchOf, AsksForNone}
+use Rattle.um_split.specs.Laws.{IsPointOf}
+use Rattle.um_split.specs.SemiLows.{HasSemiLows}
+use Rattle.um_tree.specs.Growths.{GrowthValue, IsGrowth, origin_at, parted, settled}
+use Rattle.um_cover.specs.Descents.{SplitsFit}
 use Rattle.um_cover.specs.Sites.{box_at}
 use Rattle.um_nodes.specs.Taking.{IsTaken}
 use Rattle.um_nodes.specs.declared.open_nodes.OpenNode.{OpenNode}
@@ -28,7 +32,6 @@ use Rattle.um_progress.specs.Numbers.{Number}
 use Rattle.um_progress.specs.Searches.{IsSearch, ChildIs, objective_of}
 use Rattle.um_progress.specs.Stops.{IsStopping}
 use Rattle.um_progress.specs.Ends.{rooted}
-use Rattle.um_turns.specs.Branching.{IsFloorOf, IsBranchAt, AsksForNone}
 use Rattle.um_turns.specs.Turns.{Turn, Reached, Became, IsFinished}
 use Rattle.um_turns.specs.Histories.{History, IsHistory, IsHanded, AreHanded, AreFinished, IsBest, AreChained, state_behind, left_behind, pivots_of}
 use Rattle.um_turns.specs.NextTurns.{IsNextTurn, AreUnder, IsNoBetter}
@@ -63,7 +66,7 @@ TurningHistoryLaw =
 abbrev pub PartingHistoryLaw : Type 0
 PartingHistoryLaw =
     (d : DeckValue) (t : ℤ) (start : State) (most : ℕ) (history : History) (id : ℕ) (g : GrowthValue) (ws : List OpenNode) (incumbent : Option Incumbent) (least : Option Rational) (n : Number Turn) (p : PointValue) (y : MultipliersValue) (solved : Option Solved) (branch : Branch) (l r : NodeValue) (more_left more_right : List OpenNode)
-    → IsSearch Turn d t history (Some id) g ws incumbent least → IsHistory d start most g history → AreHanded g history ws → IsNextTurn d start most g history id n → n.told.end ≡ Reached p y → IsBranchAt d p branch
+    → IsSearch Turn d t history (Some id) g ws incumbent least → IsHistory d start most g history → AreHanded g history ws → IsNextTurn d start most g history id n → n.told.end ≡ Reached p y → IsBranchOf d p branch
     → ChildIs d (objective_of incumbent) t (left d (box_at d g id) branch) (length g.nodes) l more_left → AreUnder y more_left
     → ChildIs d (objective_of incumbent) t (right d (box_at d g id) branch) (suc (length g.nodes)) r more_right → AreUnder y more_right
     → IsHistory d start most (parted g id solved branch l r) (history ++ n ∷ []) × AreHanded (parted g id solved branch l r) (history ++ n ∷ []) ((ws ++ more_left) ++ more_right)
@@ -110,14 +113,29 @@ OrderLaw = (x y : Rational) → (IsBelow x y → ¬ IsAtMost y x) × (¬ IsBelow
 abbrev pub GoingOnLaw : Type 0
 GoingOnLaw = (d : DeckValue) (start : State) (most : ℕ) (g : GrowthValue) (history : History) → IsHistory d start most g history → AreFinished history → MayBegin d (state_behind start history)
 
--- The branch that a vertex asks for is on the first column that fails the rule of integer columns, at the floor of its value.
-abbrev pub BranchLaw : Type 0
-BranchLaw = (d : DeckValue) (p : PointValue) (column : ℕ) (below : ℤ) → IsFirstFailure (IntegerHolds p) d.columns column → IsFloorOf p column below → IsBranchAt d p (Int column below)
-
--- Where no column fails it, the vertex asks for none.
-abbrev pub NoBranchLaw : Type 0
-NoBranchLaw = (d : DeckValue) (p : PointValue) → AllPlaces (IntegerHolds p) d.columns → AsksForNone d p
-
 -- The multipliers of a vertex close its node at each value that is at most the objective of the vertex: a node with a feasible vertex is closed.
 abbrev pub VertexClosesLaw : Type 0
 VertexClosesLaw = (d : DeckValue) (b : BoxValue) (p : PointValue) (y : MultipliersValue) (v : Rational) → VertexSays d b p y → IsAtMost v (objective d p) → Closes d b y v (pos 0)
+
+-- ---- the boxes of a tree
+
+-- Where the branch of each split fits, the box of each node lies within the root box.
+abbrev pub BoxWithinLaw : Type 0
+BoxWithinLaw = (d : DeckValue) (g : GrowthValue) (id : ℕ) → IsDeck d → IsGrowth g → SplitsFit d g → id < length g.nodes → IsWithinRoot d (box_at d g id)
+
+-- Where the branch of each split fits, the low end of each semicontinuous column in the box of each node is 0 or the column's threshold. For now of decks without arcs.
+abbrev pub SemiLowsLaw : Type 0
+SemiLowsLaw = (d : DeckValue) (g : GrowthValue) (id : ℕ) → IsDeck d → d.arcs ≡ [] → IsGrowth g → SplitsFit d g → id < length g.nodes → HasSemiLows d (box_at d g id)
+
+-- ---- the vertices of a tree
+
+-- A vertex of a node's box with two finite ends for each column is a point of the box, so that the branch that it asks for cuts it off.
+abbrev pub VertexPointLaw : Type 0
+VertexPointLaw =
+    (d : DeckValue) (g : GrowthValue) (id : ℕ) (p : PointValue) (y : MultipliersValue)
+    → IsDeck d → d.arcs ≡ [] → IsGrowth g → SplitsFit d g → id < length g.nodes → HasEnds d (box_at d g id) → VertexSays d (box_at d g id) p y → IsPointOf d (box_at d g id) p
+
+-- A vertex of a node that asks for no branch is feasible.
+abbrev pub FeasibleVertexLaw : Type 0
+FeasibleVertexLaw =
+    (d : DeckValue) (g : GrowthValue) (id : ℕ) (p : PointValue) (y : MultipliersValue) → IsDeck d → IsGrowth g → SplitsFit d g → id < length g.nodes → VertexSays d (box_at d g id) p y → AsksForNone d p → Feasible d p

@@ -1,4 +1,3 @@
-pub mod Branching
 pub mod Turns
 pub mod Histories
 pub mod NextTurns

@@ -8,7 +8,7 @@ use Rattle.um_model.specs.declared.answer.Why.{Why}
 use Rattle.um_model.specs.declared.answer.Why.TheVariants as why
 use Rattle.um_lp.specs.States.{State}
 use Rattle.um_solving.specs.Solvings.{AtVertex, WithoutPoint, StoppedBy}
-use Rattle.um_turns.specs.Branching.{IsBranchAt, AsksForNone}
+use Rattle.um_split.specs.Branchings.{IsBranchOf, AsksForNone}
 
 -- where the run of a node ended: at a vertex with the multipliers of its prices, without a point with multipliers of Farkas, or early for this cause, with the node's own multipliers where they were read
 pub data TurnEnd : Type 0 where
@@ -24,7 +24,7 @@ pub record Turn : Type 0 where
   pub handed : MultipliersValue
   pub end : TurnEnd
 
--- a vertex is reached at which every integer column is whole, and the node is not closed there; its own multipliers are those of the vertex
+-- a vertex is reached that asks for no branch, and the node is not closed there; its own multipliers are those of the vertex
 pub record AtGrid (d : DeckValue) (b : BoxValue) (t : Turn) (pivots number told : ℕ) (own : Option MultipliersValue) : Type 0 where
   pub same : told ≡ number
   pub point : PointValue
@@ -49,9 +49,9 @@ abbrev pub kept_multipliers : MultipliersValue → Option MultipliersValue → M
 kept_multipliers handed None = handed
 kept_multipliers handed (Some y) = y
 
--- What became of a node whose run ended so. At a vertex it was closed with the multipliers of the vertex, or branched on the first integer column whose value is not whole, at the floor of that value; without a point it is an empty leaf; where the search stopped it is an open leaf
+-- What became of a node whose run ended so. At a vertex it was closed with the multipliers of the vertex, or branched as the vertex asks; without a point it is an empty leaf; where the search stopped it is an open leaf
 abbrev pub Became : DeckValue → MultipliersValue → TurnEnd → WhatValue → Type 0
-Became d handed (Reached p y) (Split branch) = IsBranchAt d p branch
+Became d handed (Reached p y) (Split branch) = IsBranchOf d p branch
 Became d handed (Reached p y) (Bounded z) = z ≡ y
 Became d handed (Reached p y) other = ⊥
 Became d handed (Emptied y) (Empty z) = z ≡ y

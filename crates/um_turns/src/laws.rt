@@ -13,9 +13,11 @@ ghost use Rattle.um_turns.specs.Laws.{
   NewBestLaw,
   OrderLaw,
   GoingOnLaw,
-  BranchLaw,
-  NoBranchLaw,
   VertexClosesLaw,
+  BoxWithinLaw,
+  SemiLowsLaw,
+  VertexPointLaw,
+  FeasibleVertexLaw,
 };
 
 /// The root alone has an empty history.
@@ -78,17 +80,27 @@ pub fn going_on_law()
     ensures { GoingOnLaw }
 {}
 
-/// The branch that a vertex asks for.
-pub fn branch_law()
-    ensures { BranchLaw }
-{}
-
-/// A vertex that asks for none.
-pub fn no_branch_law()
-    ensures { NoBranchLaw }
-{}
-
 /// The multipliers of a vertex close its node at the objective of the vertex.
 pub fn vertex_closes_law()
     ensures { VertexClosesLaw }
+{}
+
+/// The box of each node of a tree lies within the root box.
+pub fn box_within_law()
+    ensures { BoxWithinLaw }
+{}
+
+/// The low ends of semicontinuous columns in the box of each node of a tree.
+pub fn semi_lows_law()
+    ensures { SemiLowsLaw }
+{}
+
+/// The vertex of a node is a point of the node's box.
+pub fn vertex_point_law()
+    ensures { VertexPointLaw }
+{}
+
+/// A vertex that asks for no branch is feasible.
+pub fn feasible_vertex_law()
+    ensures { FeasibleVertexLaw }
 {}

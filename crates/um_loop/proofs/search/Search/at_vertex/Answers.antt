@@ -2,10 +2,9 @@ use Rattle.std.proofs.Common.{Option}
 use Rattle.um_model.specs.LeafValue.{leaf_value}
 use Rattle.um_model.specs.Values.{plain_point}
 use Rattle.um_multipliers.specs.PlainMultipliers.{plain_multipliers}
-use Rattle.um_turns.proofs.Violations.{none_asked}
 use Rattle.um_loop.specs.declared.search.Halt.{Halt}
 use Rattle.um_loop.specs.Steps.{VertexLed, AfterVertex, with_best}
-use Rattle.um_loop.proofs.AskedBranches.{asked_some, asked_fits}
+use Rattle.um_loop.proofs.AskedBranches.{asked_fits}
 use Rattle.um_loop.proofs.KeysClose.{key_below}
 use Rattle.um_loop.proofs.Results.{ok_map}
 use Rattle.um_loop.proofs.search.Search.at_vertex.Goals as goal
@@ -27,9 +26,9 @@ returns c =
       best = best;
       best_is = c.improve.ensures;
       asked = asked;
-      asked_is = asked_some d p asked is;
-      none_is = λ none. none_asked d p (c.branch_of-asked.ensures.whole.0 none);
-      fits = asked_fits d box p asked c.requires.ends c.requires.holds is;
+      asked_is = is;
+      none_is = c.branch_of-asked.ensures.none.0;
+      fits = asked_fits d box p asked c.requires.formed.formed c.requires.vertex.point is;
       key = key;
       key_is = c.key_of-key.ensures.key;
       key_size = c.key_of-key.ensures.size;
@@ -38,7 +37,7 @@ returns c =
     c.settle_vertex.ensures
 
 pub settle_vertex-requires-clause-fits : goal.settle_vertex-requires-clause-fits
-settle_vertex-requires-clause-fits c = asked_fits c.args.deck.now c.args.node.now.limits (plain_point c.args.point) c.branch_of-asked.result c.requires.ends c.requires.holds c.branch_of-asked.ensures.branch
+settle_vertex-requires-clause-fits c = asked_fits c.args.deck.now c.args.node.now.limits (plain_point c.args.point) c.branch_of-asked.result c.requires.formed.formed c.requires.vertex.point c.branch_of-asked.ensures.branch
 
 pub settle_vertex-requires-clause-key_y0 : goal.settle_vertex-requires-clause-key_y0
-settle_vertex-requires-clause-key_y0 c = key_below (leaf_value c.args.deck.now c.args.node.now.limits (plain_multipliers c.args.y)) c.args.y.y0 c.key_of-key.result c.requires.usable.small.y0 c.key_of-key.ensures.key
+settle_vertex-requires-clause-key_y0 c = key_below (leaf_value c.args.deck.now c.args.node.now.limits (plain_multipliers c.args.y)) c.args.y.y0 c.key_of-key.result c.requires.vertex.below.y0 c.key_of-key.ensures.key

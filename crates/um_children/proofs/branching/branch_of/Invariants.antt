@@ -1,7 +1,0 @@
-use Rattle.std.proofs.Common.{ℕ, ◌<◌, get_or}
-use Rattle.um_model.specs.Values.{ColumnValue, plain_point}
-use Rattle.um_model.specs.Feasible.{IntegerHolds}
-use Rattle.um_children.proofs.branching.branch_of.Given as goal
-
-abbrev pub invariant-loop-column : goal.invariant-loop-column
-invariant-loop-column l = (k : ℕ) (d : ColumnValue) → k < l.column → IntegerHolds (plain_point l.point) k (get_or l.deck.columns k d)
