@@ -13,7 +13,6 @@ use Rattle.um_model.specs.declared.answer.AnswerKind.{AnswerKind}
 use Rattle.um_model.specs.declared.answer.Why.{Why}
 use Rattle.um_model.specs.declared.answer.Why.TheVariants as why
 use Rattle.um_soundness.proofs.AcceptedTrees.{accepted-is-right-law}
-use Rattle.um_deck.specs.Decks.{HasNoSetsOrArcs}
 use Rattle.um_lp.specs.States.{State}
 use Rattle.um_tree.specs.Growths.{GrowthValue, node_at, what_at, AreInside, IsTold}
 use Rattle.um_cover.specs.Sites.{box_at}
@@ -30,6 +29,7 @@ use Rattle.um_turns.specs.Turns.{Turn}
 use Rattle.um_turns.specs.Histories.{History, IsHistory, AreFinished}
 use Rattle.um_search.specs.declared.budget.Budget.{Budget}
 use Rattle.um_loop.specs.declared.search.Search.{Search}
+use Rattle.um_loop.specs.Goings.{IsNoGrid}
 use Rattle.um_search.specs.Told.{IsHaltedLast, IsEndedBy, HasSpentNodes, HasSpentPivots, TellsSearch}
 use Rattle.um_loop.specs.Checkables.{AreCheckable}
 use Rattle.um_search.specs.Emptying.{IsOver, kind_of_over, AreHandedBut, HasFresh, IsEmptying}
@@ -44,8 +44,8 @@ pub record AnswersFor (d : DeckValue) (budget : Budget) (a : AnswerValue) : Type
   pub checkable : IsCheckable d a
   pub tells : TellsSearch d budget a
 
-tolerance : (d : DeckValue) → HasNoSetsOrArcs d → ToleranceHolds d (pos 0)
-tolerance d plain = record { without_arcs = λ _. refl; least = λ some. absurd (some plain.arcs); most = λ some. absurd (some plain.arcs) }
+tolerance : (d : DeckValue) → d.arcs ≡ [] → ToleranceHolds d (pos 0)
+tolerance d no_arcs = record { without_arcs = λ _. refl; least = λ some. absurd (some no_arcs); most = λ some. absurd (some no_arcs) }
 
 -- ---- what can be checked
 nodes_checkable : (d : DeckValue) (g : GrowthValue) → AreCheckable d g → (ids : List ℕ) → AreInside (length g.nodes) ids → All (λ (n : NodeValue). IsCheckableWhat d n.what) (map (node_at g) ids)
@@ -71,19 +71,19 @@ unbounded d b (Empty y) h is = is
 unbounded d b (Void column) h is = is
 unbounded d b (OpenLeaf y) h is = is
 
-module _ (d : DeckValue) (plain : HasNoSetsOrArcs d) (history : History) (g : GrowthValue) (tree : List NodeValue) (told : IsTold g tree) where
+module _ (d : DeckValue) (no_arcs : d.arcs ≡ []) (history : History) (g : GrowthValue) (tree : List NodeValue) (told : IsTold g tree) where
   over_accepted : (i : Option Incumbent) (least : Option Rational) → (IsSome i → IsSome least) → IsSearch Turn d (pos 0) history None g [] i least → IsAccepted d (over_answer i least tree)
-  over_accepted (Some i) (Some x) found s = optimal_accepted Turn d (pos 0) history g i x tree s (tolerance d plain) told
+  over_accepted (Some i) (Some x) found s = optimal_accepted Turn d (pos 0) history g i x tree s (tolerance d no_arcs) told
   over_accepted (Some i) None found s = absurd (let h = found refl in cc)
   over_accepted None (Some x) found s = let a = s.closed.among in absurd (unbounded d (box_at d g a.0) (what_at g a.0) (s.nodes a.0 a.1) a.2)
-  over_accepted None None found s = infeasible_accepted Turn d (pos 0) history g None tree s (tolerance d plain) told
+  over_accepted None None found s = infeasible_accepted Turn d (pos 0) history g None tree s (tolerance d no_arcs) told
 
-module _ (d : DeckValue) (formed : IsDeck d) (plain : HasNoSetsOrArcs d) (budget : Budget) (s : Search) (over : IsOver d budget.pivots s) (within : s.solved ≤ budget.nodes) (checkable : AreCheckable d s.growth) (tree : List NodeValue) (told : IsTold s.growth tree) where
+module _ (d : DeckValue) (formed : IsDeck d) (no_arcs : d.arcs ≡ []) (budget : Budget) (s : Search) (over : IsOver d budget.pivots s) (within : s.solved ≤ budget.nodes) (checkable : AreCheckable d s.growth) (tree : List NodeValue) (told : IsTold s.growth tree) where
   search : IsSearch Turn d (pos 0) over.ran.going.history None s.growth [] s.incumbent s.least
   search = subst (λ (ws : List OpenNode). IsSearch Turn d (pos 0) over.ran.going.history None s.growth ws s.incumbent s.least) over.ran.none over.ran.going.search
 
   accepts : IsAccepted d (over_answer s.incumbent s.least tree)
-  accepts = over_accepted d plain over.ran.going.history s.growth tree told s.incumbent s.least over.ran.going.found search
+  accepts = over_accepted d no_arcs over.ran.going.history s.growth tree told s.incumbent s.least over.ran.going.found search
 
   over_answers : AnswersFor d budget (over_answer s.incumbent s.least tree)
   over_answers = record {
@@ -103,6 +103,7 @@ module _ (d : DeckValue) (formed : IsDeck d) (plain : HasNoSetsOrArcs d) (budget
       handed = λ id inside. none_but s.growth over.ran.going.history [] search.all id inside (λ a. a);
       best = record { incumbent = s.incumbent; best = over.ran.going.best; point = refl; objective = refl };
       ended = over.ran.going.finished;
+      no_grid = tt;
       nodes = subst (λ (k : ℕ). k ≤ budget.nodes) over.ran.going.solved within;
       pivots = let h = pivots_all over.start budget.pivots over.ran.going.history over.ran.going.told.chained in omega (arith, h);
       spent_nodes = λ e. absurd (cc);
@@ -128,7 +129,7 @@ spent_between d start budget g history told numbered finished all hand = record 
 cause_is : (a b : Why) → Some a ≡ Some b → a ≡ b
 cause_is a b e = cc
 
-module _ (d : DeckValue) (formed : IsDeck d) (plain : HasNoSetsOrArcs d) (budget : Budget) (cause : Why) (i : Option Incumbent) (g : GrowthValue) (ws : List OpenNode) (endless : Bool) (least : Option Rational) (none : ws ≡ []) (s : IsEmptying d budget cause i g ws endless least) (tree : List NodeValue) (told : IsTold g tree) where
+module _ (d : DeckValue) (formed : IsDeck d) (no_arcs : d.arcs ≡ []) (budget : Budget) (cause : Why) (i : Option Incumbent) (g : GrowthValue) (ws : List OpenNode) (endless : Bool) (least : Option Rational) (none : ws ≡ []) (no_grid : IsNoGrid cause) (s : IsEmptying d budget cause i g ws endless least) (tree : List NodeValue) (told : IsTold g tree) where
   abbrev answer : AnswerValue
   answer = stopped (kind_of_stop cause) cause (pos 0) i (bound_of endless least) tree
 
@@ -136,7 +137,7 @@ module _ (d : DeckValue) (formed : IsDeck d) (plain : HasNoSetsOrArcs d) (budget
   stopping = subst (λ (xs : List OpenNode). IsStopping Turn d (pos 0) s.history g xs i endless least) none s.stopping
 
   stop_accepts : IsAccepted d answer
-  stop_accepts = stopped_accepted Turn d (pos 0) s.history g i endless least (kind_of_stop cause) cause tree stopping (tolerance d plain) refl told
+  stop_accepts = stopped_accepted Turn d (pos 0) s.history g i endless least (kind_of_stop cause) cause tree stopping (tolerance d no_arcs) refl told
 
   stop_answers : AnswersFor d budget answer
   stop_answers = record {
@@ -156,6 +157,7 @@ module _ (d : DeckValue) (formed : IsDeck d) (plain : HasNoSetsOrArcs d) (budget
       handed = λ id inside. (subst (λ (xs : List OpenNode). AreHandedBut g s.history (map id_of xs)) none s.others) id inside (λ a. a);
       best = record { incumbent = i; best = s.best; point = refl; objective = refl };
       ended = s.ended;
+      no_grid = no_grid;
       nodes = s.nodes;
       pivots = let h = pivots_all s.start budget.pivots s.history s.told.chained in omega (arith, h);
       spent_nodes = λ e. spent_between d s.start budget g s.history s.told stopping.draining.numbered (subst (IsEndedBy s.history) e s.ended) (s.all (cause_is cause why.Nodes e)) (s.hand (cause_is cause why.Nodes e));

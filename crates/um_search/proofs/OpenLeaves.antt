@@ -9,7 +9,6 @@ use Rattle.um_model.specs.LeafValue.{leaf_value}
 use Rattle.um_model.specs.declared.answer.Why.{Why}
 use Rattle.um_model.specs.declared.answer.Why.TheVariants as why
 use Rattle.um_model.specs.declared.tree.Solved.{Solved}
-use Rattle.um_deck.specs.Decks.{HasNoSetsOrArcs}
 use Rattle.um_lp.specs.States.{State}
 use Rattle.um_tree.specs.Growths.{GrowthValue, IsOpenAt, origin_at, what_at, settled}
 use Rattle.um_cover.specs.Sites.{box_at}
@@ -63,7 +62,7 @@ no_leaf : (number pivots : ℕ) (w : WhatValue) (z : MultipliersValue) → ¬ (r
 no_leaf number pivots w z same = let none = ap (λ (n : NodeValue). n.solved) same in absurd (cc)
 
 -- ---- the node in hand
-module _ (d : DeckValue) (plain : HasNoSetsOrArcs d) (budget : Budget) (s : Search) (halt : Halt) (within : s.solved ≤ budget.nodes) (checkable : AreCheckable d s.growth) where
+module _ (d : DeckValue) (no_arcs : d.arcs ≡ []) (budget : Budget) (s : Search) (halt : Halt) (within : s.solved ≤ budget.nodes) (checkable : AreCheckable d s.growth) where
   abbrev y : MultipliersValue
   y = plain_multipliers halt.hand.y
 
@@ -89,8 +88,8 @@ module _ (d : DeckValue) (plain : HasNoSetsOrArcs d) (budget : Budget) (s : Sear
           history = g.history;
           stopping = stops_in_hand Turn d (pos 0) g.history g.history id s.growth s.open s.incumbent s.least least endless None y g.search t.waits.bounds counts refl;
           told = settle_history d start budget.pivots s.growth g.history id t.waits.fresh.solved g.search.numbered g.told (node None);
-          rising = all_rise d plain start budget.pivots s.growth g.history g.told g.finished s.open g.handed;
-          checkable = checkable_on d s.growth id (node None) (handed_rises d plain start budget.pivots s.growth g.history g.told g.finished (origin_at s.growth id) y t.handed) checkable;
+          rising = all_rise d no_arcs start budget.pivots s.growth g.history g.told g.finished s.open g.handed;
+          checkable = checkable_on d s.growth id (node None) (handed_rises d no_arcs start budget.pivots s.growth g.history g.told g.finished (origin_at s.growth id) y t.handed) checkable;
           handed = g.handed;
           others = but_on d s.growth g.history id (id ∷ map id_of s.open) (map id_of s.open) (node None) t.waits.fresh.inside (λ j a. a)
               (λ z same. subst (IsHanded g.history (origin_at s.growth id)) (leaf_is y z same) t.handed) (none_but s.growth g.history (id ∷ map id_of s.open) g.search.all);
@@ -122,7 +121,7 @@ module _ (d : DeckValue) (plain : HasNoSetsOrArcs d) (budget : Budget) (s : Sear
       became = subst (λ (e : TurnEnd). Became d h.turn.handed e (OpenLeaf y)) (sym h.end_is) h.kept
 
       rises : Rises d y
-      rises = subst (Rises d) (sym h.kept) (kept_rises d plain start budget.pivots s.growth h.history h.told h.finished (box_at d s.growth id) h.turn h.pivots (suc (length h.history)) h.before_is halt.why h.own holds (origin_at s.growth id) h.handed_is)
+      rises = subst (Rises d) (sym h.kept) (kept_rises d no_arcs start budget.pivots s.growth h.history h.told h.finished (box_at d s.growth id) h.turn h.pivots (suc (length h.history)) h.before_is halt.why h.own holds (origin_at s.growth id) h.handed_is)
 
       next : IsNextTurn d start budget.pivots s.growth h.history id turn
       next = record { at = refl; before = h.before_is; left = h.left_is; few = subst (λ (k : ℕ). h.pivots ≤ k) h.left_is h.within; run = h.run; handed = h.handed_is }
@@ -136,7 +135,7 @@ module _ (d : DeckValue) (plain : HasNoSetsOrArcs d) (budget : Budget) (s : Sear
         history = history;
         stopping = stops_in_hand Turn d (pos 0) h.history history id s.growth s.open s.incumbent s.least least endless own y h.search h.waits.bounds counts (turn, refl, refl, refl);
         told = settle_turn d start budget.pivots s.growth h.history id h.waits.fresh.solved h.search.numbered h.told (node own) turn h.waits.fresh.inside next became;
-        rising = all_rise d plain start budget.pivots s.growth h.history h.told h.finished s.open h.handed;
+        rising = all_rise d no_arcs start budget.pivots s.growth h.history h.told h.finished s.open h.handed;
         checkable = checkable_on d s.growth id (node own) rises checkable;
         handed = all_handed_more s.growth h.history turn s.open h.handed;
         others = but_on d s.growth history id (id ∷ map id_of s.open) (map id_of s.open) (node own) h.waits.fresh.inside (λ j a. a)

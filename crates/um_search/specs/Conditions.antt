@@ -1,20 +1,13 @@
 -- Which decks are searched so far, and which budgets there are.
-use Rattle.std.specs.Prelude.{◌≡◌, ◌≤◌, pos, ◌⊎◌, All}
+use Rattle.std.specs.Prelude.{◌≡◌, ◌≤◌, pos, [], All}
 use Rattle.um_model.specs.Values.{DeckValue, ColumnValue}
 use Rattle.um_model.specs.WellFormed.{HasTwoEnds}
-use Rattle.um_model.specs.declared.deck.Kind.TheVariants.{Continuous, Integer}
-use Rattle.um_deck.specs.Decks.{HasNoSetsOrArcs}
 use Rattle.um_search.specs.declared.budget.Budget.{Budget}
 
--- continuous or integer, with two finite ends
-pub record IsSearchedColumn (c : ColumnValue) : Type 0 where
-  pub kind : (c.kind ≡ Continuous) ⊎ (c.kind ≡ Integer)
-  pub bounded : HasTwoEnds c.low c.high
-
--- no sets and arcs, and only such columns; the rows, their sides, the scales and the sense are free
+-- no arcs, and two finite ends for each column; the kinds of the columns, the ordered sets, the rows, their sides, the scales and the sense are free
 pub record IsSearched (d : DeckValue) : Type 0 where
-  pub no_sets_or_arcs : HasNoSetsOrArcs d
-  pub columns : All IsSearchedColumn d.columns
+  pub arcs : d.arcs ≡ []
+  pub columns : All (λ (c : ColumnValue). HasTwoEnds c.low c.high) d.columns
 
 -- from 1 to 100,000 nodes and from 1 to 10,000,000 pivots; the tolerance of a deck without arcs is 0
 pub record IsBudget (b : Budget) : Type 0 where

@@ -1,5 +1,5 @@
 -- What an answer tells of the search that it came from.
-use Rattle.std.specs.Prelude.{◌≡◌, ℕ, ◌<◌, ◌≤◌, pos, [], ◌∷◌, ◌++◌, length, Option, Some, None}
+use Rattle.std.specs.Prelude.{◌≡◌, ℕ, ◌<◌, ◌≤◌, pos, [], ◌∷◌, ◌++◌, length, Option, Some, None, IfSome}
 use Rattle.um_multipliers.specs.PlainMultipliers.{MultipliersValue}
 use Rattle.um_model.specs.Values.{DeckValue}
 use Rattle.um_model.specs.AnswerValues.{AnswerValue, OpenLeaf}
@@ -17,6 +17,7 @@ use Rattle.um_progress.specs.Searches.{objective_of}
 use Rattle.um_progress.specs.Ends.{point_of}
 use Rattle.um_turns.specs.Turns.{Turn, Halted}
 use Rattle.um_turns.specs.Histories.{History, IsHanded, IsHistory, AreFinished, IsBest, pivots_of}
+use Rattle.um_loop.specs.Goings.{IsNoGrid}
 use Rattle.um_search.specs.declared.budget.Budget.{Budget}
 
 -- ---- how the search ended
@@ -81,6 +82,7 @@ pub record TellsBest (d : DeckValue) (history : History) (a : AnswerValue) : Typ
 --   numbered: the numbers in the tree are those of the turns
 --   handed: the open leaves without a number have the multipliers that they were handed
 --   ended: why it ended
+--   no_grid: it did not end at a vertex that asks for no branch
 --   nodes, pivots: within the budget
 --   spent_nodes: where nodes were wanting, all are solved and one more is in hand
 --   spent_pivots: where pivots were wanting, all were made and one more step is due
@@ -97,6 +99,7 @@ pub record TellsSearch (d : DeckValue) (budget : Budget) (a : AnswerValue) : Typ
   pub handed : OpenLeavesAreHanded growth history
   pub best : TellsBest d history a
   pub ended : IsEndedBy history a.why
+  pub no_grid : IfSome a.why IsNoGrid
   pub nodes : length history ≤ budget.nodes
   pub pivots : pivots_of history ≤ budget.pivots
   pub spent_nodes : a.why ≡ Some why.Nodes → HasSpentNodes budget growth history

@@ -10,7 +10,6 @@ ghost use Rattle.um_model.specs.LeafValue.{leaf_value};
 ghost use Rattle.um_model.specs.Right.{IsRight};
 ghost use Rattle.um_model.specs.Values.{plain_point};
 ghost use Rattle.um_model.specs.WellFormed.{IsDeck};
-ghost use Rattle.um_deck.specs.Decks.{HasNoSetsOrArcs};
 ghost use Rattle.um_lp.specs.States.{State};
 ghost use Rattle.um_lp.specs.Boards.{IsBoard, IsStart};
 ghost use Rattle.um_duality.specs.Relaxed.{deck_frame};
@@ -22,7 +21,7 @@ ghost use Rattle.um_progress.specs.Stops.{Counts, bound_of as bound_in_all};
 ghost use Rattle.um_progress.specs.Waits.{WaitsIn};
 ghost use Rattle.um_loop.specs.Checkables.{AreCheckable};
 ghost use Rattle.um_search.specs.Emptying.{IsOver, IsHalted, kind_of_over};
-ghost use Rattle.um_loop.specs.Goings.{IsGoing};
+ghost use Rattle.um_loop.specs.Goings.{IsGoing, IsNoGrid};
 ghost use Rattle.um_search.specs.Told.{TellsSearch};
 
 use crate::budget::Budget;
@@ -71,7 +70,7 @@ pub(crate) fn finish(
     budget: Budget,
 ) -> Result<Answer, Memory>
     requires formed { IsDeck deck.now }
-    requires no_sets_or_arcs { HasNoSetsOrArcs deck.now }
+    requires no_arcs { deck.now.arcs ≡ [] }
     requires over { IsOver deck.now budget.pivots search }
     requires within { search.solved ≤ budget.nodes }
     requires checkable { AreCheckable deck.now search.growth }
@@ -114,8 +113,9 @@ pub(crate) fn stop(
     budget: Budget,
 ) -> Result<Answer, Memory>
     requires formed { IsDeck deck.now }
-    requires no_sets_or_arcs { HasNoSetsOrArcs deck.now }
+    requires no_arcs { deck.now.arcs ≡ [] }
     requires halted { IsHalted deck.now budget.pivots budget.nodes search halt }
+    requires no_grid { IsNoGrid halt.why }
     requires within { search.solved ≤ budget.nodes }
     requires checkable { AreCheckable deck.now search.growth }
     ensures accepted { IfOk result (λ answer. IsAccepted deck.now (plain_answer answer)) }

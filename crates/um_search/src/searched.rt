@@ -1,37 +1,27 @@
 //! Which decks are searched so far.
 
-ghost use Rattle.std.specs.Prelude.{◌≡◌, ◌↔◌, ◌⊎◌, IsTrue, All, map};
-ghost use Rattle.um_model.specs.declared.deck.Kind.TheVariants.{Continuous, Integer};
-ghost use Rattle.um_model.specs.Values.{plain_column};
-ghost use Rattle.um_search.specs.Conditions.{IsSearched, IsSearchedColumn};
+ghost use Rattle.std.specs.Prelude.{◌↔◌, IsTrue, All, map};
+ghost use Rattle.um_model.specs.Values.{ColumnValue, plain_column};
+ghost use Rattle.um_model.specs.WellFormed.{HasTwoEnds};
+ghost use Rattle.um_search.specs.Conditions.{IsSearched};
 
-use um_deck::{Column, Deck, Kind};
+use um_deck::{Column, Deck};
 
-/// Whether the deck is one that is searched.
+/// Whether the deck is one that is searched: it has no arcs, and its columns have two finite ends.
 pub fn is_searched(deck: &Deck) -> bool
     ensures { IsTrue result ↔ IsSearched deck.now }
 {
-    deck.sets().is_empty() && deck.arcs().is_empty() && are_searched(deck.columns())
+    deck.arcs().is_empty() && have_two_ends(deck.columns())
 }
 
-fn are_searched(columns: &[Column]) -> bool
-    ensures { IsTrue result ↔ All IsSearchedColumn (map plain_column columns.now) }
+fn have_two_ends(columns: &[Column]) -> bool
+    ensures { IsTrue result ↔ All (λ (c : ColumnValue). HasTwoEnds c.low c.high) (map plain_column columns.now) }
 {
-    columns.iter().all(is_searched_column)
+    columns.iter().all(has_two_ends)
 }
 
-/// Whether the column is continuous or integer, and has two finite ends.
-fn is_searched_column(column: &Column) -> bool
-    ensures { IsTrue result ↔ IsSearchedColumn (plain_column column.now) }
+fn has_two_ends(column: &Column) -> bool
+    ensures { IsTrue result ↔ HasTwoEnds (plain_column column.now).low (plain_column column.now).high }
 {
-    is_searched_kind(column.kind) && column.low.is_some() && column.high.is_some()
-}
-
-fn is_searched_kind(kind: Kind) -> bool
-    ensures { IsTrue result ↔ (kind ≡ Continuous) ⊎ (kind ≡ Integer) }
-{
-    match kind {
-        Kind::Continuous | Kind::Integer => true,
-        Kind::Semi(_) => false,
-    }
+    column.low.is_some() && column.high.is_some()
 }

@@ -23,8 +23,7 @@ use um_num::Memory;
 use um_relax::{Relaxation, build};
 use um_tableau::Tableau;
 
-/// The answer to a deck without sets and arcs whose columns are continuous or integer, with two finite
-/// ends. The error is want of memory.
+/// The answer to a deck without arcs whose columns have two finite ends. The error is want of memory.
 ///
 /// The answer is accepted by a checker of its tree, and so it is right, and it tells the search that it
 /// came from. It stops early only at the budget of nodes or of pivots, or where a number is too large.

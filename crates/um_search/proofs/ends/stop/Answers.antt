@@ -6,12 +6,12 @@ use Rattle.um_search.proofs.FinalAnswers.{stop_answered}
 use Rattle.um_search.proofs.ends.stop.Goals as goal
 
 pub leave_open-bounds-requires : goal.leave_open-bounds-requires
-leave_open-bounds-requires c = hand_waits c.args.deck.now c.requires.no_sets_or_arcs c.args.budget c.args.search c.args.halt c.requires.within c.requires.checkable c.requires.halted
+leave_open-bounds-requires c = hand_waits c.args.deck.now c.requires.no_arcs c.args.budget c.args.search c.args.halt c.requires.within c.requires.checkable c.requires.halted
 
 pub entries-init : goal.entries-init
 entries-init c =
     let left = c.leave_open-bounds in
-    hand_left c.args.deck.now c.requires.no_sets_or_arcs c.args.budget c.args.search c.args.halt c.requires.within c.requires.checkable c.requires.halted left.new.growth left.result.endless left.result.least left.ensures.left left.ensures.counts
+    hand_left c.args.deck.now c.requires.no_arcs c.args.budget c.args.search c.args.halt c.requires.within c.requires.checkable c.requires.halted left.new.growth left.result.endless left.result.least left.ensures.left left.ensures.counts
 
 pub leave_open-bounds-requires-in-Some : goal.leave_open-bounds-requires-in-Some
 leave_open-bounds-requires-in-Some c = entry_waits c.args.deck.now c.args.budget c.args.halt.why c.args.search.incumbent c.entries.growth c.entries.open c.pop.new.self c.in-Some.entry c.entries.bounds.endless c.entries.bounds.least c.in-Some.ensures.taken c.entries.invariant
@@ -25,22 +25,22 @@ pub returns-clause-accepted : goal.returns-clause-accepted
 returns-clause-accepted c =
     let b = c.entries.bounds in
     let none : c.entries.open ≡ [] = search rules in
-    (stop_answered c.args.deck.now c.requires.formed c.requires.no_sets_or_arcs c.args.budget c.args.halt.why c.args.search.incumbent c.entries.growth c.entries.open b.endless b.least none c.entries.invariant (map plain_node c.in_ok-tree.tree) c.in_ok-tree.ensures c.kind.result c.parts-objective.result.0 c.bound_of_all-bound.result (option_map plain_point c.parts-objective.result.1) c.kind.ensures c.parts-objective.ensures.objective c.bound_of_all-bound.ensures c.parts-objective.ensures.point).accepted
+    (stop_answered c.args.deck.now c.requires.formed c.requires.no_arcs c.args.budget c.args.halt.why c.args.search.incumbent c.entries.growth c.entries.open b.endless b.least none c.requires.no_grid c.entries.invariant (map plain_node c.in_ok-tree.tree) c.in_ok-tree.ensures c.kind.result c.parts-objective.result.0 c.bound_of_all-bound.result (option_map plain_point c.parts-objective.result.1) c.kind.ensures c.parts-objective.ensures.objective c.bound_of_all-bound.ensures c.parts-objective.ensures.point).accepted
 
 pub returns-clause-right : goal.returns-clause-right
 returns-clause-right c =
     let b = c.entries.bounds in
     let none : c.entries.open ≡ [] = search rules in
-    (stop_answered c.args.deck.now c.requires.formed c.requires.no_sets_or_arcs c.args.budget c.args.halt.why c.args.search.incumbent c.entries.growth c.entries.open b.endless b.least none c.entries.invariant (map plain_node c.in_ok-tree.tree) c.in_ok-tree.ensures c.kind.result c.parts-objective.result.0 c.bound_of_all-bound.result (option_map plain_point c.parts-objective.result.1) c.kind.ensures c.parts-objective.ensures.objective c.bound_of_all-bound.ensures c.parts-objective.ensures.point).right
+    (stop_answered c.args.deck.now c.requires.formed c.requires.no_arcs c.args.budget c.args.halt.why c.args.search.incumbent c.entries.growth c.entries.open b.endless b.least none c.requires.no_grid c.entries.invariant (map plain_node c.in_ok-tree.tree) c.in_ok-tree.ensures c.kind.result c.parts-objective.result.0 c.bound_of_all-bound.result (option_map plain_point c.parts-objective.result.1) c.kind.ensures c.parts-objective.ensures.objective c.bound_of_all-bound.ensures c.parts-objective.ensures.point).right
 
 pub returns-clause-checkable : goal.returns-clause-checkable
 returns-clause-checkable c =
     let b = c.entries.bounds in
     let none : c.entries.open ≡ [] = search rules in
-    (stop_answered c.args.deck.now c.requires.formed c.requires.no_sets_or_arcs c.args.budget c.args.halt.why c.args.search.incumbent c.entries.growth c.entries.open b.endless b.least none c.entries.invariant (map plain_node c.in_ok-tree.tree) c.in_ok-tree.ensures c.kind.result c.parts-objective.result.0 c.bound_of_all-bound.result (option_map plain_point c.parts-objective.result.1) c.kind.ensures c.parts-objective.ensures.objective c.bound_of_all-bound.ensures c.parts-objective.ensures.point).checkable
+    (stop_answered c.args.deck.now c.requires.formed c.requires.no_arcs c.args.budget c.args.halt.why c.args.search.incumbent c.entries.growth c.entries.open b.endless b.least none c.requires.no_grid c.entries.invariant (map plain_node c.in_ok-tree.tree) c.in_ok-tree.ensures c.kind.result c.parts-objective.result.0 c.bound_of_all-bound.result (option_map plain_point c.parts-objective.result.1) c.kind.ensures c.parts-objective.ensures.objective c.bound_of_all-bound.ensures c.parts-objective.ensures.point).checkable
 
 pub returns-clause-tells : goal.returns-clause-tells
 returns-clause-tells c =
     let b = c.entries.bounds in
     let none : c.entries.open ≡ [] = search rules in
-    (stop_answered c.args.deck.now c.requires.formed c.requires.no_sets_or_arcs c.args.budget c.args.halt.why c.args.search.incumbent c.entries.growth c.entries.open b.endless b.least none c.entries.invariant (map plain_node c.in_ok-tree.tree) c.in_ok-tree.ensures c.kind.result c.parts-objective.result.0 c.bound_of_all-bound.result (option_map plain_point c.parts-objective.result.1) c.kind.ensures c.parts-objective.ensures.objective c.bound_of_all-bound.ensures c.parts-objective.ensures.point).tells
+    (stop_answered c.args.deck.now c.requires.formed c.requires.no_arcs c.args.budget c.args.halt.why c.args.search.incumbent c.entries.growth c.entries.open b.endless b.least none c.requires.no_grid c.entries.invariant (map plain_node c.in_ok-tree.tree) c.in_ok-tree.ensures c.kind.result c.parts-objective.result.0 c.bound_of_all-bound.result (option_map plain_point c.parts-objective.result.1) c.kind.ensures c.parts-objective.ensures.objective c.bound_of_all-bound.ensures c.parts-objective.ensures.point).tells

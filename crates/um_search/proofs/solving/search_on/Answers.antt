@@ -1,15 +1,14 @@
 use Rattle.std.proofs.Common.{◌≤◌, arith}
 use Rattle.um_model.specs.Boxes.{root}
-use Rattle.um_search.proofs.RootBoxes.{root_not_void}
 use Rattle.um_search.proofs.RunEnds.{over_of, halted_of}
-use Rattle.um_search.proofs.SearchedColumns.{each_bounded}
 use Rattle.um_solving.specs.Laws.{HasEnds}
 use Rattle.um_solving.proofs.BoxEnds.{root-law}
 use Rattle.um_solving.proofs.Goings.{start-law}
+use Rattle.um_solving.proofs.RootBoxes.{full-root-law}
 use Rattle.um_search.proofs.solving.search_on.Goals as goal
 
 pub begin-requires-clause-full : goal.begin-requires-clause-full
-begin-requires-clause-full g c = root_not_void c.args.deck.now c.known.ensures.formed c.requires.searched.no_sets_or_arcs.sets
+begin-requires-clause-full g c = full-root-law c.args.deck.now c.known.ensures.formed
 
 pub run-requires : goal.run-requires
 run-requires g c =
@@ -17,11 +16,11 @@ run-requires g c =
     let s = g.B.Board.state c.args.board.now in
     let belongs = g.met.B.Board.belongs c.args.board.now in
     let begun = c.in_ok-search.ensures in
-    let ends : HasEnds d (root d) = root-law d (each_bounded d c.requires.searched) in
+    let ends : HasEnds d (root d) = root-law d c.requires.searched.columns in
     let none = begun.solved in
     let within : c.in_ok-search.search.solved ≤ c.args.budget.nodes = omega (arith, none) in
     λ lifetimes lives.
-    (lives, (c.requires.searched.no_sets_or_arcs, (ends, (c.requires.relaxed, (c.requires.frame, (start-law d s c.requires.starts belongs, (begun.going s c.args.budget.pivots c.requires.starts belongs, (c.requires.budget.nodes, (within, begun.checkable)))))))))
+    (lives, (c.requires.searched.arcs, (ends, (c.requires.relaxed, (c.requires.frame, (start-law d s c.requires.starts belongs, (begun.going s c.args.budget.pivots c.requires.starts belongs, (c.requires.budget.nodes, (within, begun.checkable)))))))))
 
 pub finish-requires-clause-over : goal.finish-requires-clause-over
 finish-requires-clause-over g c =

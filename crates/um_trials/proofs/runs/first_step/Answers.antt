@@ -1,17 +1,16 @@
 use Rattle.std.proofs.Common.{sym, subst}
 use Rattle.um_model.specs.Boxes.{BoxValue, IsVoid}
-use Rattle.um_search.proofs.SearchedColumns.{each_bounded}
-use Rattle.um_search.proofs.RootBoxes.{root_not_void}
 use Rattle.um_solving.specs.Laws.{HasEnds}
 use Rattle.um_solving.proofs.BoxEnds.{root-law}
 use Rattle.um_solving.proofs.Goings.{start-law}
+use Rattle.um_solving.proofs.RootBoxes.{full-root-law}
 use Rattle.um_trials.proofs.runs.first_step.Goals as goal
 
 pub rebox-requires-clause-full : goal.rebox-requires-clause-full
-rebox-requires-clause-full g c = subst (λ (b : BoxValue). ¬ IsVoid c.args.root.now.deck b) (sym c.requires.root) (root_not_void c.args.root.now.deck c.requires.formed c.requires.searched.no_sets_or_arcs.sets)
+rebox-requires-clause-full g c = subst (λ (b : BoxValue). ¬ IsVoid c.args.root.now.deck b) (sym c.requires.root) (full-root-law c.args.root.now.deck c.requires.formed)
 
 pub rebox-requires-clause-wanted : goal.rebox-requires-clause-wanted
 rebox-requires-clause-wanted g c =
     let d = c.args.root.now.deck in
     (start-law d (g.B.Board.state c.args.board.now) c.requires.starts (g.met.B.Board.belongs c.args.board.now)).wants c.args.root.now.limits
-    (subst (λ (b : BoxValue). HasEnds d b) (sym c.requires.root) (root-law d (each_bounded d c.requires.searched)))
+    (subst (λ (b : BoxValue). HasEnds d b) (sym c.requires.root) (root-law d c.requires.searched.columns))
