@@ -6,4 +6,3 @@ pub mod Reportable
 pub mod SolveCalls
 pub mod SolveForms
 pub mod PrintCalls
-mod CheckedColumns

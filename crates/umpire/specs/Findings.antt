@@ -13,7 +13,6 @@ use Rattle.um_mps.specs.declared.reader.ReadFault.{ReadFault}
 use Rattle.um_search.specs.Conditions.{IsSearched}
 use Rattle.um_search.specs.Told.{TellsSearch}
 use Rattle.um_search.specs.declared.budget.Budget.{Budget}
-use Rattle.umpire.specs.CheckedDecks.{IsChecked}
 use Rattle.um_treetext.specs.declared.fault.TreeFault.{TreeFault}
 use Rattle.um_treetext.specs.declared.fault.TreeWord.TheVariants as tree
 use Rattle.um_treetext.specs.Reading.{TreeText, TreeFaultAt}
@@ -52,18 +51,16 @@ pub record HasDeck (name : List ℕ) (d : DeckValue) (s t : Scene) : Type 0 wher
   pub read : ReadWhole name bytes s t
   pub text : DeckText bytes d
 
--- the same of a deck that a command takes: one that is searched, or one whose trees are checked
+-- the same of a deck that a command takes
 pub record HasDeckOf (IsTaken : DeckValue → Type 0) (name : List ℕ) (d : DeckValue) (s t : Scene) : Type 0 where
   pub bytes : List ℕ
   pub read : ReadWhole name bytes s t
   pub text : DeckText bytes d
   pub taken : IsTaken d
 
+-- the decks that are searched are those whose trees are checked, too
 abbrev pub HasSearchedDeck : List ℕ → DeckValue → Scene → Scene → Type 0
 HasSearchedDeck name d s t = HasDeckOf IsSearched name d s t
-
-abbrev pub HasCheckedDeck : List ℕ → DeckValue → Scene → Scene → Type 0
-HasCheckedDeck name d s t = HasDeckOf IsChecked name d s t
 
 -- the file of this name was read to its end, has at most 2^31 bytes, and is the text of this answer for the deck
 pub record HasTree (d : DeckValue) (name : List ℕ) (a : AnswerValue) (s t : Scene) : Type 0 where

@@ -7,6 +7,5 @@ pub mod SolveWords
 pub mod SolveRuns
 pub mod PrintRuns
 pub mod Stops
-pub mod CheckedDecks
 pub mod Findings
 pub mod Runs

@@ -8,7 +8,6 @@
 //! is called.
 #![tactic(auto)]
 
-mod checked;
 mod commands;
 mod ending;
 pub mod laws;

@@ -6,12 +6,10 @@ ghost use Rattle.um_model.specs.Checkable.{IsCheckable};
 ghost use Rattle.um_mps.specs.DeckText.{DeckText};
 ghost use Rattle.um_search.specs.Conditions.{IsSearched};
 ghost use Rattle.um_treetext.specs.Reading.{TreeText};
-ghost use Rattle.umpire.specs.CheckedDecks.{IsChecked};
-ghost use Rattle.umpire.specs.Findings.{HasCheckedDeck, HasDeck, HasSearchedDeck, HasTree};
+ghost use Rattle.umpire.specs.Findings.{HasDeck, HasSearchedDeck, HasTree};
 ghost use Rattle.um_outside.specs.Scenes.{Idle};
 ghost use Rattle.umpire.specs.Stops.{FileStopped, RefusesDeck, RefusesDeckOf, RefusesTree, StopsFor, StopsForTree, TextStopped, TreeStopped};
 
-use crate::checked::is_checked;
 use crate::outcome::Refusal;
 use std::alloc::Global;
 use thiserror::Error;
@@ -30,7 +28,7 @@ const MOST_DECK_BYTES: usize = 16_777_216;
 /// The most bytes of a tree.
 const MOST_TREE_BYTES: usize = 2_147_483_648;
 
-/// The refusal of a deck that a command does not take yet.
+/// The refusal of a deck that is not solved or checked yet.
 const UNTAKEN: ReadFault = ReadFault {
     line: 0,
     fault: Fault::NotYet,
@@ -96,8 +94,8 @@ fn deck_of(alloc: Global, bytes: &[u8]) -> Result<Deck, Stop>
     }
 }
 
-/// The deck that a file is the text of, where it is searched. Another deck, as one with a set, an arc, a
-/// semicontinuous column or an infinite end, is refused as `NotYet` at line 0.
+/// The deck that a file is the text of, where it is searched, and so its trees are checked. Another deck, which has an
+/// arc or a column without two finite ends, is refused as `NotYet` at line 0.
 pub(crate) fn read_searched<D: Desk>(alloc: Global, desk: &mut D, name: &str) -> Result<Deck, Stop>
     requires idle { (D.scene desk.old).mode ≡ Idle }
     requires going { (D.scene desk.old).stopped ≡ false }
@@ -107,22 +105,6 @@ pub(crate) fn read_searched<D: Desk>(alloc: Global, desk: &mut D, name: &str) ->
 {
     match read_deck(alloc, desk, name) {
         Ok(deck) if is_searched(&deck) => Ok(deck),
-        Ok(_) => Err(Stop::Refused(Refusal::Deck(UNTAKEN))),
-        Err(stop) => Err(stop),
-    }
-}
-
-/// The deck that a file is the text of, where its trees are checked. Another deck, as one with an arc or an
-/// infinite end, is refused as `NotYet` at line 0.
-pub(crate) fn read_checked<D: Desk>(alloc: Global, desk: &mut D, name: &str) -> Result<Deck, Stop>
-    requires idle { (D.scene desk.old).mode ≡ Idle }
-    requires going { (D.scene desk.old).stopped ≡ false }
-    ensures ok { IfOk result (λ deck. HasCheckedDeck name.now deck (D.scene desk.old) (D.scene desk.new)) }
-    ensures checked { IfOk result IsChecked }
-    ensures err { IfErr result (λ stop. FileStopped name.now (RefusesDeckOf IsChecked name.now) stop (D.scene desk.old) (D.scene desk.new)) }
-{
-    match read_deck(alloc, desk, name) {
-        Ok(deck) if is_checked(&deck) => Ok(deck),
         Ok(_) => Err(Stop::Refused(Refusal::Deck(UNTAKEN))),
         Err(stop) => Err(stop),
     }

@@ -9,6 +9,7 @@ mod checking;
 mod options;
 mod printing;
 mod searches;
+mod sets;
 mod solving;
 mod texts;
 mod trees;

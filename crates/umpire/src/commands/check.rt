@@ -8,7 +8,7 @@ ghost use Rattle.umpire.specs.CheckRuns.{check_of, names_of, CheckRan, CheckStop
 ghost use Rattle.umpire.specs.Findings.{IsFinding};
 
 use crate::ending::Ending;
-use crate::reading::{Stop, read_checked, read_tree};
+use crate::reading::{Stop, read_searched, read_tree};
 use crate::saying::{give_up, tell};
 use crate::words::is_plain;
 use std::alloc::Global;
@@ -64,7 +64,7 @@ fn judge<D: Desk>(alloc: Global, desk: &mut D, files: &CheckFiles<'_>) -> Result
     ensures ok { IfOk result (λ verdict. HasJudged (names_of files.now) verdict (D.scene desk.old) (D.scene desk.new)) }
     ensures err { IfErr result (λ stop. CheckStopped (names_of files.now) stop (D.scene desk.old) (D.scene desk.new)) }
 {
-    let deck = read_checked(alloc, desk, files.deck)?;
+    let deck = read_searched(alloc, desk, files.deck)?;
     match read_tree(alloc, desk, &deck, files.tree) {
         Ok(answer) => verdict_on(alloc, &deck, &answer),
         Err(stop) => Err(stop),

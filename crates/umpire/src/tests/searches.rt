@@ -1,6 +1,6 @@
 //! Searches of decks with integer columns, whole and within a budget.
 //!
-//! The expected texts were worked out without this program.
+//! What they tell was worked out beforehand, by another program.
 
 use super::trees::{WHOLE, WHOLE_TREE};
 use super::{Told, YES, call, desk_of, says, words_of};
@@ -12,7 +12,7 @@ use um_num::List;
 use um_outside::MemorySink;
 
 /// The words of a call, its status, its report, and the tree that it writes.
-type Search = (&'static str, Status, &'static [u8], &'static [u8]);
+pub(super) type Search = (&'static str, Status, &'static [u8], &'static [u8]);
 
 /// The deck of two integer columns is solved at five nodes.
 const OF_WHOLE: Search = (
@@ -155,7 +155,12 @@ const MORE_PIVOTS: [Search; 5] = [
 ];
 
 /// The search of a deck tells this, and its tree is accepted.
-fn tells(rt: &impl Abort, alloc: Global, deck: &[u8], search: &Search) -> Result<(), Fail> {
+pub(super) fn tells(
+    rt: &impl Abort,
+    alloc: Global,
+    deck: &[u8],
+    search: &Search,
+) -> Result<(), Fail> {
     let (line, status, report, tree) = *search;
     let words = words_of(alloc, line)?;
     let mut desk = desk_of(alloc, deck, b"")?;

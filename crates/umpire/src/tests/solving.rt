@@ -117,9 +117,9 @@ const ENDS: [(&[u8], Status, &[u8], &[u8]); 10] = [
 
 /// What solving the deck told, and the tree that it wrote.
 #[derive(Drop)]
-struct Solving {
-    told: Told,
-    tree: List<u8>,
+pub(super) struct Solving {
+    pub(super) told: Told,
+    pub(super) tree: List<u8>,
 }
 
 /// No call has this number.
@@ -134,7 +134,7 @@ fn solve_failing(
 ) -> Result<Solving, Fail> {
     let words = words_of(alloc, "solve deck --tree found")?;
     let mut desk = desk_of(alloc, deck, b"")?;
-    desk.room("found", 4096)?;
+    desk.room("found", 16_384)?;
     desk.fail_at(desk_call)?;
     let mut sink = MemorySink::new(alloc, 16);
     sink.room(4096)?;
@@ -146,7 +146,7 @@ fn solve_failing(
     Ok(Solving { told, tree })
 }
 
-fn solve(alloc: Global, deck: &[u8]) -> Result<Solving, Fail> {
+pub(super) fn solve(alloc: Global, deck: &[u8]) -> Result<Solving, Fail> {
     solve_failing(alloc, deck, NEVER, NEVER)
 }
 
@@ -189,14 +189,13 @@ fn refused(rt: HostRuntime) -> Result<(), Fail> {
     Ok(())
 }
 
-/// Decks that break no rule and are not searched yet: with a set, a semicontinuous column, an arc, and without a
-/// high or a low end. Each is `DECK` with a text in the place of another.
-const UNTAKEN: [(&str, &str); 5] = [
-    ("ENDATA\n", "SOS\n S1 s\n x 1\n y 2\nENDATA\n"),
-    (" UP BND x 3\n", " SC BND x 3\n"),
+/// Decks that break no rule and are not solved or checked yet: with an arc, and without a high, a low, or both ends.
+/// Each is `DECK` with a text in the place of another.
+const UNTAKEN: [(&str, &str); 4] = [
     ("ENDATA\n", "ARCS\n Q COST x 1\nENDATA\n"),
     (" UP BND x 3\n", " PL BND x\n"),
     (" LO BND y 0\n", " MI BND y\n"),
+    (" UP BND y 2\n", " FR BND y\n"),
 ];
 
 #[test]
@@ -207,6 +206,8 @@ fn untaken(rt: HostRuntime) -> Result<(), Fail> {
         let text = b"deck refused: NotYet at line 0\n";
         says(&rt, &solving.told, Status::Refused, text);
         assert_eq!(rt; solving.tree.as_slice(), b"".as_slice());
+        let checked = call(rt.alloc(), "check deck tree", deck.as_bytes(), TREE)?;
+        says(&rt, &checked, Status::Refused, text);
     }
     Ok(())
 }
