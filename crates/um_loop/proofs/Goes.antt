@@ -47,6 +47,7 @@ use Rattle.um_loop.specs.declared.search.Halt.{Halt}
 use Rattle.um_loop.specs.Goings.{IsGoing, HasTaken, HaltedAt, WentOn, GoesOn}
 use Rattle.um_loop.specs.Steps.{IsBestOf, IsNotClosing, HasOwn, IsKept, StoppedWith, ClosedAtVertex, BranchedAtVertex, StoppedAtGrid, VertexLed, AfterVertex, EndSays, HasSettled, emptied_search, with_best}
 use Rattle.um_loop.proofs.KeysClose.{key_closes, key_bound, new_below, vertex_closes}
+use Rattle.um_loop.proofs.NeededTurns.{none_closes}
 use Rattle.um_loop.proofs.Results.{ok_map}
 use Rattle.um_loop.proofs.Settled.{own_waits, halts, leaf_goes, split_goes}
 
@@ -115,7 +116,7 @@ module _ (d : DeckValue) (start : State) (most : ℕ) (taken : OpenNode) (s : Se
   abbrev counted_search : Search
   counted_search = record s { solved = s.solved + 1 }
 
-  module _ (pivots : ℕ) (after : State) (within : pivots ≤ left) (few : s.solved < 100000) (stands : StandsFor d board) (solved : Solved) (solved_is : solved ≡ record { number = suc (length history); pivots = pivots }) where
+  module _ (pivots : ℕ) (after : State) (within : pivots ≤ left) (few : s.solved < 100000) (stands : StandsFor d board) (still : IsNotClosing d s.incumbent taken.key) (solved : Solved) (solved_is : solved ≡ record { number = suc (length history); pivots = pivots }) where
     -- ---- at a vertex
     module _ (p : PointValue) (y : MultipliersValue) (small : IsSmallPoint p) (below : AreBelow (2 ^ 40) y) (says : VertexSays d box p y) (ended : AtVertex d box board pivots after p y) where
       abbrev number : Number Turn
@@ -141,7 +142,7 @@ module _ (d : DeckValue) (start : State) (most : ℕ) (taken : OpenNode) (s : Se
             let same = sym c.closed.after_is in
             record {
               going = subst (λ (z : Search). IsGoing d start most None z after (left - pivots)) same
-                  (leaf_goes d start most taken s board left t pivots after (Reached p y) within ended solved solved_is best searching bests tt (Bounded y) (Some c.closed.least) holds (c.bound, counts, c.closed.lesser) refl (λ some. refl));
+                  (leaf_goes d start most taken s board left t pivots after (Reached p y) within ended still solved solved_is best searching bests tt (Bounded y) (Some c.closed.least) holds (c.bound, counts, c.closed.lesser) refl (λ some. refl));
               solved = ap (λ (z : Search). z.solved) c.closed.after_is;
               waiting = let e = ap (λ (z : Search). length z.open) c.closed.after_is in omega (arith, e);
               begins = begins;
@@ -157,7 +158,7 @@ module _ (d : DeckValue) (start : State) (most : ℕ) (taken : OpenNode) (s : Se
             let second = h.second_is (objective_of best) (pos 0) in
             record {
               going = subst (λ (z : Search). IsGoing d start most None z after (left - pivots)) (sym h.after_is)
-                  (split_goes d start most taken s board left t pivots after (Reached p y) within ended solved solved_is best searching bests tt p y refl c.branch fits_at is_at few (λ some. t.going.found (subst IsSome kept some)) h.first h.second h.first_more h.second_more first second h.first_under h.second_under);
+                  (split_goes d start most taken s board left t pivots after (Reached p y) within ended still solved solved_is best searching bests tt p y refl c.branch fits_at is_at few (λ some. t.going.found (subst IsSome kept some)) (none_closes d (history ++ number ∷ []) best box y k bests key_is c.open_still) h.first h.second h.first_more h.second_more first second h.first_under h.second_under);
               solved = ap (λ (z : Search). z.solved) h.after_is;
               waiting =
                   let e = ap (λ (z : Search). length z.open) h.after_is in
@@ -187,7 +188,7 @@ module _ (d : DeckValue) (start : State) (most : ℕ) (taken : OpenNode) (s : Se
               key_size = subst (λ (z : Key). unsigned_abs z.value < 2 ^ 126) (sym c.key_is) key_size;
             } in
             subst (λ (z : Search). HaltedAt d start most z halt after (left - pivots)) (ap (with_best counted_search) (sym kept) ∙ sym c.same)
-            (halts d start most taken s board left t pivots after cause within run halt (Some y) (ap (λ (z : Why). Halted z (Some y)) (sym c.cause)) c.node_is (c.number_is ∙ ap (λ (z : Solved). Some z) solved_is) few (own_waits d start most taken s board left t halt.hand y own below says.positive) c.multipliers)
+            (halts d start most taken s board left t pivots after cause within run still halt (Some y) (ap (λ (z : Why). Halted z (Some y)) (sym c.cause)) c.node_is (c.number_is ∙ ap (λ (z : Solved). Some z) solved_is) few (own_waits d start most taken s board left t halt.hand y own below says.positive) c.multipliers)
 
         led_on : (k : Key) (asked : Option Branch) (halt : Option Halt) (x : Search) → KeyIs (leaf_value d box y) y.y0 k → unsigned_abs k.value < 2 ^ 126 → IfSome asked (IsBranchOf d p) → (IsNone asked → AsksForNone d p) → IfSome asked (Fits d box)
             → VertexLed d box (with_best counted_search best) taken.node solved asked y k halt x → GoesOn d start most s halt x after (left - pivots)
@@ -206,7 +207,7 @@ module _ (d : DeckValue) (start : State) (most : ℕ) (taken : OpenNode) (s : Se
         let holds : EmptyIs d box y = record { full = t.waits.bounds.full; small = below; sign = says.sign; empties = says.empties } in
         record {
           going = subst (λ (z : Search). IsGoing d start most None z after (left - pivots)) (sym same)
-              (leaf_goes d start most taken s board left t pivots after (Emptied y) within ended solved solved_is s.incumbent t.going.search (best_stays d history s.incumbent number tt t.going.best) tt (Empty y) s.least holds refl refl t.going.found);
+              (leaf_goes d start most taken s board left t pivots after (Emptied y) within ended still solved solved_is s.incumbent t.going.search (best_stays d history s.incumbent number tt t.going.best) tt (Empty y) s.least holds refl refl t.going.found);
           solved = ap (λ (z : Search). z.solved) same;
           waiting = let e = ap (λ (z : Search). length z.open) same in omega (arith, e);
           begins = next-law d box board pivots after stands ended.run;
@@ -224,7 +225,7 @@ module _ (d : DeckValue) (start : State) (most : ℕ) (taken : OpenNode) (s : Se
         let hand = hand_waits own halt.hand says k.kept in
         let turn : Turn = record { before = board; after = after; left = left; handed = plain_multipliers taken.y; end = Halted cause own } in
         subst (λ (z : Search). HaltedAt d start most z halt after (left - pivots)) (sym c.1)
-        (halts d start most taken s board left t pivots after (Halted cause own) within (halt_of d box turn pivots (suc (length history)) cause own ended) halt own (ap (λ (z : Why). Halted z own) (sym k.cause_is)) hand.0 (k.number_is ∙ ap (λ (z : Solved). Some z) solved_is) few hand.1 hand.2)
+        (halts d start most taken s board left t pivots after (Halted cause own) within (halt_of d box turn pivots (suc (length history)) cause own ended) still halt own (ap (λ (z : Why). Halted z own) (sym k.cause_is)) hand.0 (k.number_is ∙ ap (λ (z : Solved). Some z) solved_is) few hand.1 hand.2)
 
     -- ---- however it ended
     goes : (e : NodeEnd) (halt : Option Halt) (x : Search) → EndSays d box e → EndedAs d box board pivots left (suc (length history)) e after → HasSettled d box counted_search taken solved e halt x → GoesOn d start most s halt x after (left - pivots)
@@ -237,12 +238,12 @@ module _ (d : DeckValue) (start : State) (most : ℕ) (taken : OpenNode) (s : Se
         own_all (Some y) h = h
 
   -- the whole of it: the node got the next number, and was settled as its run ended
-  pub solved_goes : StandsFor d board → s.solved < 100000 → (pivots : ℕ) → pivots ≤ left → (after : State) (e : NodeEnd) → EndSays d box e → EndedAs d box board pivots left (s.solved + 1) e after → (r : Result (Option Halt) Memory) (x : Search)
+  pub solved_goes : StandsFor d board → s.solved < 100000 → IsNotClosing d s.incumbent taken.key → (pivots : ℕ) → pivots ≤ left → (after : State) (e : NodeEnd) → EndSays d box e → EndedAs d box board pivots left (s.solved + 1) e after → (r : Result (Option Halt) Memory) (x : Search)
       → IfOk r (λ halt. HasSettled d box counted_search taken (record { number = s.solved + 1; pivots = pivots }) e halt x) → IfOk r (λ halt. GoesOn d start most s halt x after (left - pivots))
-  solved_goes stands few pivots within after e says ended r x settled =
+  solved_goes stands few still pivots within after e says ended r x settled =
       let counted = t.going.solved in
       let next : s.solved + 1 ≡ suc (length history) = omega (arith, counted) in
       let solved : Solved = record { number = s.solved + 1; pivots = pivots } in
       let solved_is : solved ≡ record { number = suc (length history); pivots = pivots } = λ i. record { number = next i; pivots = pivots } in
       let run = subst (λ (n : ℕ). EndedAs d box board pivots left n e after) next ended in
-      ok_map (λ (halt : Option Halt). HasSettled d box counted_search taken solved e halt x) (λ (halt : Option Halt). GoesOn d start most s halt x after (left - pivots)) r (λ halt c. goes pivots after within few stands solved solved_is e halt x says run c) settled
+      ok_map (λ (halt : Option Halt). HasSettled d box counted_search taken solved e halt x) (λ (halt : Option Halt). GoesOn d start most s halt x after (left - pivots)) r (λ halt c. goes pivots after within few stands still solved solved_is e halt x says run c) settled

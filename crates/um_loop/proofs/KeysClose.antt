@@ -1,6 +1,6 @@
 -- A key that closes a node, and the multipliers that it goes with.
 use Rattle.std.proofs.Common.{◌≡◌, ℤ, pos, negsuc, ◌<ℤ◌, [], ◌∷◌, Option, Some, None, inl, inr, refl, sym, ap, ◌∙◌, subst, arith}
-use Rattle.std.specs.Prelude.{IsSomeAnd, unsigned_abs, ◌<◌, ◌^◌}
+use Rattle.std.specs.Prelude.{IsSomeAnd, IfSome, unsigned_abs, ◌<◌, ◌^◌}
 use Rattle.std.proofs.lemmas.Int.{ints}
 use Rattle.um_laws.specs.Rational.{Rational}
 use Rattle.um_multipliers.specs.PlainMultipliers.{MultipliersValue}
@@ -92,6 +92,17 @@ vertex_closes d b p y k best says is below none =
       reaches = and_of (objective_of best) (λ v at_most. reaches_below d k.y0 k.value (pos 0) v (objective d p) (omega (arith, ints, positive)) own at_most) below;
       bound_is = refl;
     })
+
+-- ---- a node that stays open
+
+-- where the key closes no node at the best point, its multipliers do not close the node there
+pub open_still : (d : DeckValue) (b : BoxValue) (y : MultipliersValue) (k : Key) (best : Option Incumbent) → KeyIs (leaf_value d b y) y.y0 k → IsNotClosing d best k → IfSome (objective_of best) (λ v. ¬ Closes d b y v (pos 0))
+open_still d b y k None is none = tt
+open_still d b y k (Some i) is none = λ c.
+    let key = key_has (leaf_value d b y) y.y0 c.value k is c.value_is in
+    let up = c.y0 in
+    let here : Reaches d k.y0 k.value i.objective (pos 0) = subst (λ (z : ℤ). Reaches d z k.value i.objective (pos 0)) (sym key.0) (subst (λ (z : ℤ). Reaches d y.y0 z i.objective (pos 0)) (sym key.1) c.reaches) in
+    none (leaf_bound d k.y0 k.value) (record { some = λ e. absurd (let same = key.0 in omega (arith, ints, e, same, up)); reaches = here; bound_is = refl })
 
 -- ---- what the test of a key says; its numbers come as words of the machine
 

@@ -3,6 +3,8 @@ pub mod TreeBoxes
 pub mod AskedBranches
 pub mod ChildParts
 pub mod Takings
+pub mod UnnumberedNodes
+pub mod NeededTurns
 pub mod Rising
 pub mod Checkables
 pub mod Keepings

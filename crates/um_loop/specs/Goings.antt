@@ -10,11 +10,15 @@ use Rattle.um_cover.specs.Sites.{box_at}
 use Rattle.um_nodes.specs.declared.open_nodes.OpenNode.{OpenNode}
 use Rattle.um_progress.specs.Waits.{WaitsIn}
 use Rattle.um_progress.specs.Searches.{IsSearch}
+use Rattle.um_progress.specs.Lineage.{IsLineage}
 use Rattle.um_solving.specs.Laws.{MayBegin}
 use Rattle.um_turns.specs.Turns.{Turn, Halted, EndHolds, kept_multipliers}
 use Rattle.um_turns.specs.Histories.{History, IsHistory, AreFinished, AreHanded, IsHanded, IsBest, state_behind, left_behind}
 use Rattle.um_loop.specs.declared.search.Search.{Search}
 use Rattle.um_loop.specs.declared.search.Halt.{Halt}
+use Rattle.um_loop.specs.Steps.{IsNotClosing}
+use Rattle.um_loop.specs.UnnumberedNodes.{AreUnnumbered}
+use Rattle.um_loop.specs.NeededTurns.{IsOpenBefore, AreNeeded}
 
 -- how a search began: the state of its board, and how many pivots it had
 pub record Beginning : Type 0 where
@@ -27,6 +31,9 @@ pub record Beginning : Type 0 where
 --   solved: each number is counted
 --   told: the turns hold; finished: the search stopped in none
 --   handed: what waits has the multipliers that it was handed
+--   unnumbered: each node without a number is void, or open, or closed with the multipliers that it was handed
+--   lineage: each split has a number, and numbers rise from parents to children
+--   needed: the best point so far closed no node that was solved, and none that was split
 --   best: the best point is the first of least objective among the feasible vertices
 --   board_is, left_is: the board is in the state, and as many pivots are left, as behind the last turn
 --   found: a point is there only with a least bound
@@ -37,6 +44,9 @@ pub record IsGoing (d : DeckValue) (start : State) (most : ℕ) (hand : Option �
   pub told : IsHistory d start most s.growth history
   pub finished : AreFinished history
   pub handed : AreHanded s.growth history s.open
+  pub unnumbered : AreUnnumbered s.growth history
+  pub lineage : IsLineage s.growth
+  pub needed : AreNeeded d s.growth history
   pub best : IsBest d history s.incumbent
   pub board_is : board ≡ state_behind start history
   pub left_is : left ≡ left_behind most history
@@ -55,15 +65,16 @@ abbrev pub IsNoGrid : Why → Type 0
 IsNoGrid (why.Grid number) = ⊥
 IsNoGrid other = Unit {0}
 
--- all nodes of the budget are solved, and the one in hand got no number
+-- all nodes of the budget are solved, and the one in hand got no number: its key does not close it at the best point
 pub record HasSpent (d : DeckValue) (start : State) (most nodes : ℕ) (s : Search) (halt : Halt) (board : State) (left : ℕ) : Type 0 where
   pub taken : HasTaken d start most halt.hand s board left
   pub cause : halt.why ≡ why.Nodes
   pub none : halt.solved ≡ None
   pub all : s.solved ≡ nodes
+  pub open_still : IsNotClosing d s.incumbent halt.hand.key
 
 -- The search stopped in the last turn, on the node in hand, which is open in the tree and has no number there yet. The history is that of the turns before.
---   search, told, finished, handed, best, found: as of a search that goes on, with the node in hand
+--   search, told, finished, handed, unnumbered, lineage, needed, best, found: as of a search that goes on, with the node in hand
 --   solved: the last turn is counted, too; few: it is one of the first 100,000
 --   turn, pivots, own: the last turn, its pivots, and the node's own multipliers where they were read
 --   end_is: it ended early, for the cause of the stop
@@ -71,6 +82,7 @@ pub record HasSpent (d : DeckValue) (start : State) (most nodes : ℕ) (s : Sear
 --   run: the turn is that of the node in hand
 --   before_is, left_is, within: it began where the turn before ended, and its pivots were left
 --   handed_is: the node was handed these multipliers
+--   hand_needed: they close it at no vertex so far
 --   waits: the multipliers that the node keeps bound its box, and its key is theirs
 --   kept: they are its own where they were read, else those that it was handed
 --   board_is, rest_is: the board is in the state, and as many pivots are left, as behind the last turn
@@ -80,6 +92,9 @@ pub record HaltedAt (d : DeckValue) (start : State) (most : ℕ) (s : Search) (h
   pub told : IsHistory d start most s.growth history
   pub finished : AreFinished history
   pub handed : AreHanded s.growth history s.open
+  pub unnumbered : AreUnnumbered s.growth history
+  pub lineage : IsLineage s.growth
+  pub needed : AreNeeded d s.growth history
   pub best : IsBest d history s.incumbent
   pub found : IsSome s.incumbent → IsSome s.least
   pub solved : s.solved ≡ suc (length history)
@@ -94,6 +109,7 @@ pub record HaltedAt (d : DeckValue) (start : State) (most : ℕ) (s : Search) (h
   pub left_is : turn.left ≡ left_behind most history
   pub within : pivots ≤ turn.left
   pub handed_is : IsHanded history (origin_at s.growth halt.hand.node) turn.handed
+  pub hand_needed : IsOpenBefore d history (length history) (box_at d s.growth halt.hand.node) turn.handed
   pub waits : WaitsIn d s.growth halt.hand
   pub kept : plain_multipliers halt.hand.y ≡ kept_multipliers turn.handed own
   pub board_is : board ≡ turn.after

@@ -1,3 +1,5 @@
 pub mod Checkables
 pub mod Goings
+pub mod NeededTurns
 pub mod Steps
+pub mod UnnumberedNodes

@@ -10,7 +10,7 @@ ghost use Rattle.um_relax.specs.Relaxations.{IsRelaxationOf};
 ghost use Rattle.um_solving.specs.Laws.{HasEnds, MayBegin, OwnSays};
 ghost use Rattle.um_loop.specs.Checkables.{AreCheckable};
 ghost use Rattle.um_loop.specs.Goings.{Beginning, IsGoing, HasTaken, GoesOn, HasRun, IsNoGrid};
-ghost use Rattle.um_loop.specs.Steps.{EndSays, HasSettled, HasOwn, HasStoppedAt};
+ghost use Rattle.um_loop.specs.Steps.{IsNotClosing, EndSays, HasSettled, HasOwn, HasStoppedAt};
 ghost use Rattle.um_tree.specs.Growths.{IsOpenAt};
 
 use crate::search::{Halt, Search};
@@ -73,7 +73,7 @@ impl Search {
         }
     }
 
-    /// Solves the node in hand under the next number, and settles it. Where the search stops in this, the
+    /// Solves the node in hand, which its key does not close, under the next number, and settles it. Where the search stops in this, the
     /// node keeps its own multipliers where they were read. The error is want of memory.
     fn solve_next<B: Board>(
         &mut self,
@@ -93,6 +93,7 @@ impl Search {
         requires taken { HasTaken deck.now began.start began.most taken self.old (B.state board.old) left.old }
         requires few { self.old.solved < 100000 }
         requires checkable { AreCheckable deck.now self.old.growth }
+        requires open_still { IsNotClosing deck.now self.old.incumbent taken.key }
         ensures same { relaxation.new ≡ relaxation.old }
         ensures goes { IfOk result (λ halt. GoesOn deck.now began.start began.most self.old halt self.new (B.state board.new) left.new) }
         ensures solved { IfOk result (λ halt. self.new.solved ≡ self.old.solved + 1) }

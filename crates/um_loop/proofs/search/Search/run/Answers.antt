@@ -4,6 +4,7 @@ use Rattle.um_tree.specs.Growths.{origin_at}
 use Rattle.um_nodes.specs.declared.open_nodes.OpenNode.{OpenNode}
 use Rattle.um_progress.proofs.KeyBounds.{waits_key}
 use Rattle.um_loop.specs.Goings.{HasTaken}
+use Rattle.um_loop.specs.Steps.{IsNotClosing}
 use Rattle.um_loop.proofs.Keepings.{closed_keeps}
 use Rattle.um_loop.proofs.Rising.{Rises, handed_rises}
 use Rattle.um_loop.proofs.Settled.{closed_goes}
@@ -59,6 +60,7 @@ returns-then-self-nodes-clause-run g c =
       cause = out.cause;
       none = out.none;
       all = c.if-self-nodes.true;
+      open_still = subst (λ (w : OpenNode). IsNotClosing c.args.deck.now c.nodes.self.incumbent w.key) (sym out.hand) c.in_default-closing.ensures;
     })
 
 pub solve_next-requires : goal.solve_next-requires
@@ -68,4 +70,4 @@ solve_next-requires g c =
     let other = c.if-self-nodes.false in
     let budget = c.requires.1.1.1.1.1.1.1.0 in
     let few : c.nodes.self.solved < 100000 = omega (arith, within, other, budget) in
-    λ lifetimes live. (live, (c.requires.1.0, (c.requires.1.1.0, (old.relaxed, (old.frame, (old.begins, ((taken_next g (goal.at.solve_next-requires g c).In-Some), (few, old.checkable))))))))
+    λ lifetimes live. (live, (c.requires.1.0, (c.requires.1.1.0, (old.relaxed, (old.frame, (old.begins, ((taken_next g (goal.at.solve_next-requires g c).In-Some), (few, (old.checkable, c.in_default-closing.ensures)))))))))

@@ -55,19 +55,19 @@ returns-clause-goes g c =
     let falls : rest ≤ left = c.solve_node.ensures.falls in
     let within : left - rest ≤ left = omega arith in
     let same : left - (left - rest) ≡ rest = omega (arith, falls) in
-    let goes = solved_goes c.args.deck.now g.began.start g.began.most c.args.taken c.args.self.now (g.B.Board.state c.args.board.now) left c.requires.1.1.1.1.1.1.0 c.requires.1.1.1.1.1.0.stands c.requires.1.1.1.1.1.1.1.0 (left - rest) within (g.B.Board.state c.solve_node.new.board) c.in_ok-end.end (says g at.In_ok-end) (ended g at.In_ok-end) c.settle.result c.settle.new.self (settled g at.After-settle) in
+    let goes = solved_goes c.args.deck.now g.began.start g.began.most c.args.taken c.args.self.now (g.B.Board.state c.args.board.now) left c.requires.1.1.1.1.1.1.0 c.requires.1.1.1.1.1.0.stands c.requires.1.1.1.1.1.1.1.0 c.requires.1.1.1.1.1.1.1.1.1 (left - rest) within (g.B.Board.state c.solve_node.new.board) c.in_ok-end.end (says g at.In_ok-end) (ended g at.In_ok-end) c.settle.result c.settle.new.self (settled g at.After-settle) in
     subst (λ (n : ℕ). IfOk c.settle.result (λ halt. GoesOn c.args.deck.now g.began.start g.began.most c.args.self.now halt c.settle.new.self (g.B.Board.state c.solve_node.new.board) n)) same goes
 
 pub returns-clause-checkable : goal.returns-clause-checkable
 returns-clause-checkable g c =
     let at = goal.at.returns-clause-checkable g c in
-    let keep = all_keep c.args.deck.now (box_at c.args.deck.now c.args.self.now.growth c.args.taken.node) (record c.args.self.now { solved = c.args.self.now.solved + 1 }) c.args.taken (record { number = c.args.self.now.solved + 1; pivots = c.args.left.now - c.solve_node.new.left }) c.in_ok-end.end c.settle.result c.settle.new.self c.requires.1.1.1.1.1.1.0.waits.fresh.inside (says g at.In_ok-end) c.requires.1.1.1.1.1.1.1.1 (settled g at.After-settle) in
+    let keep = all_keep c.args.deck.now (box_at c.args.deck.now c.args.self.now.growth c.args.taken.node) (record c.args.self.now { solved = c.args.self.now.solved + 1 }) c.args.taken (record { number = c.args.self.now.solved + 1; pivots = c.args.left.now - c.solve_node.new.left }) c.in_ok-end.end c.settle.result c.settle.new.self c.requires.1.1.1.1.1.1.0.waits.fresh.inside (says g at.In_ok-end) c.requires.1.1.1.1.1.1.1.1.0 (settled g at.After-settle) in
     ok_map (λ (halt : Option Halt). Keeps c.args.deck.now (record c.args.self.now { solved = c.args.self.now.solved + 1 }) c.settle.new.self) (λ (halt : Option Halt). AreCheckable c.args.deck.now c.settle.new.self.growth) c.settle.result (λ halt h. h.0) keep
 
 pub returns-clause-solved : goal.returns-clause-solved
 returns-clause-solved g c =
     let at = goal.at.returns-clause-solved g c in
-    let keep = all_keep c.args.deck.now (box_at c.args.deck.now c.args.self.now.growth c.args.taken.node) (record c.args.self.now { solved = c.args.self.now.solved + 1 }) c.args.taken (record { number = c.args.self.now.solved + 1; pivots = c.args.left.now - c.solve_node.new.left }) c.in_ok-end.end c.settle.result c.settle.new.self c.requires.1.1.1.1.1.1.0.waits.fresh.inside (says g at.In_ok-end) c.requires.1.1.1.1.1.1.1.1 (settled g at.After-settle) in
+    let keep = all_keep c.args.deck.now (box_at c.args.deck.now c.args.self.now.growth c.args.taken.node) (record c.args.self.now { solved = c.args.self.now.solved + 1 }) c.args.taken (record { number = c.args.self.now.solved + 1; pivots = c.args.left.now - c.solve_node.new.left }) c.in_ok-end.end c.settle.result c.settle.new.self c.requires.1.1.1.1.1.1.0.waits.fresh.inside (says g at.In_ok-end) c.requires.1.1.1.1.1.1.1.1.0 (settled g at.After-settle) in
     ok_map (λ (halt : Option Halt). Keeps c.args.deck.now (record c.args.self.now { solved = c.args.self.now.solved + 1 }) c.settle.new.self) (λ (halt : Option Halt). c.settle.new.self.solved ≡ c.args.self.now.solved + 1) c.settle.result (λ halt h. h.1) keep
 
 pub returns-clause-no_grid : goal.returns-clause-no_grid
