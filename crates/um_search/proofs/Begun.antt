@@ -1,5 +1,5 @@
 -- A search begins: its root waits with the multipliers 1 and none.
-use Rattle.std.proofs.Common.{◌≡◌, ℕ, zero, suc, ◌<◌, ◌^◌, ◌<ℤ◌, pos, List, [], ◌∷◌, length, None, refl, sym, ap, subst, arith}
+use Rattle.std.proofs.Common.{◌≡◌, ℕ, zero, suc, ◌<◌, ◌^◌, ◌<ℤ◌, pos, List, [], ◌∷◌, length, Some, None, refl, sym, ap, subst, arith}
 use Rattle.std.specs.Prelude.{unsigned_abs}
 use Rattle.std.proofs.lemmas.Int.{ints}
 use Rattle.um_multipliers.specs.PlainMultipliers.{MultipliersValue, plain_multipliers}
@@ -10,13 +10,17 @@ use Rattle.um_bound.specs.Usable.{AreUsable}
 use Rattle.um_lp.specs.States.{State}
 use Rattle.um_lp.specs.Boards.{IsBoard, IsStart}
 use Rattle.um_duality.specs.Relaxed.{deck_frame}
-use Rattle.um_tree.specs.Growths.{GrowthValue}
+use Rattle.um_model.specs.AnswerValues.{Split}
+use Rattle.um_model.specs.declared.branch.Branch.{Branch}
+use Rattle.um_tree.specs.Growths.{GrowthValue, what_at, origin_at}
+use Rattle.um_tree.specs.declared.growing.Origin.{Origin}
 use Rattle.um_cover.specs.Nodes.{OpenIs}
 use Rattle.um_nodes.specs.Keys.{IsKey}
 use Rattle.um_nodes.specs.declared.open_nodes.OpenNode.{OpenNode}
 use Rattle.um_progress.specs.Ends.{rooted}
 use Rattle.um_progress.specs.Waits.{KeyIs}
 use Rattle.um_progress.specs.Searches.{IsEntryOf, IsSearch}
+use Rattle.um_progress.specs.Lineage.{IsLineage}
 use Rattle.um_progress.proofs.Beginning.{one_and_none_bound}
 use Rattle.um_progress.proofs.KeyBounds.{entry_key}
 use Rattle.um_progress.proofs.Settling.{begins}
@@ -26,6 +30,7 @@ use Rattle.um_turns.proofs.Turning.{history_begins}
 use Rattle.um_turns.proofs.Waiting.{root_handed}
 use Rattle.um_loop.specs.Goings.{IsGoing}
 use Rattle.um_loop.specs.Checkables.{AreCheckable}
+use Rattle.um_loop.specs.UnnumberedNodes.{AreUnnumbered}
 use Rattle.um_loop.proofs.Rising.{none_rises}
 
 abbrev pub one : MultipliersValue
@@ -42,6 +47,27 @@ one_usable d y full is =
     let open_is = one_bounds d (root d) y full is in
     let up = one_positive y is in
     record { y0 = omega (arith, ints); small = open_is.small; rising = none_rises d y is }
+
+-- ---- the root alone
+-- it is an open leaf
+root_unnumbered : (y : MultipliersValue) → AreUnnumbered (rooted y) []
+root_unnumbered y zero h none = tt
+root_unnumbered y (suc id) h none = absurd (omega arith)
+
+root_unsplit : (y : MultipliersValue) (id : ℕ) (branch : Branch) → id < length (rooted y).nodes → ¬ (what_at (rooted y) id ≡ Split branch)
+root_unsplit y zero branch h e = absurd (cc)
+root_unsplit y (suc id) branch h e = absurd (omega arith)
+
+-- and has no parent
+root_first : (y : MultipliersValue) (id : ℕ) (o : Origin) → id < length (rooted y).nodes → ¬ (origin_at (rooted y) id ≡ Some o)
+root_first y zero o h e = absurd (cc)
+root_first y (suc id) o h e = absurd (omega arith)
+
+root_lineage : (y : MultipliersValue) → IsLineage (rooted y)
+root_lineage y = record {
+  splits = λ id branch h e. absurd (root_unsplit y id branch h e);
+  above = λ id o p n h e parent own. absurd (root_first y id o h e);
+}
 
 module _ (d : DeckValue) (w : OpenNode) (full : ¬ IsVoid d (root d)) (own : plain_multipliers w.y ≡ one) (first : w.node ≡ 0) (key : KeyIs (leaf_value d (root d) (plain_multipliers w.y)) w.y.y0 w.key) (small : unsigned_abs w.key.value < 2 ^ 126) where
   entry : IsEntryOf d (root d) 0 w
@@ -62,6 +88,9 @@ module _ (d : DeckValue) (w : OpenNode) (full : ¬ IsVoid d (root d)) (own : pla
       told = history_begins d start most y starts board;
       finished = tt;
       handed = root_handed y w first own;
+      unnumbered = root_unnumbered y;
+      lineage = root_lineage y;
+      needed = λ place n e. absurd (cc);
       best = best_begins d;
       board_is = refl;
       left_is = refl;

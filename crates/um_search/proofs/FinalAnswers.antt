@@ -32,7 +32,7 @@ use Rattle.um_loop.specs.declared.search.Search.{Search}
 use Rattle.um_loop.specs.Goings.{IsNoGrid}
 use Rattle.um_search.specs.Told.{IsHaltedLast, IsEndedBy, HasSpentNodes, HasSpentPivots, TellsSearch}
 use Rattle.um_loop.specs.Checkables.{AreCheckable}
-use Rattle.um_search.specs.Emptying.{IsOver, kind_of_over, AreHandedBut, HasFresh, IsEmptying}
+use Rattle.um_search.specs.Emptying.{IsOver, kind_of_over, AreHandedBut, HasHand, IsEmptying}
 use Rattle.um_turns.proofs.Chains.{pivots_all}
 use Rattle.um_search.proofs.SpentPivots.{pivots_spent}
 use Rattle.um_search.proofs.SpentNodes.{none_solved}
@@ -101,6 +101,9 @@ module _ (d : DeckValue) (formed : IsDeck d) (no_arcs : d.arcs ≡ []) (budget :
       told = over.ran.going.told;
       numbered = search.numbered;
       handed = λ id inside. none_but s.growth over.ran.going.history [] search.all id inside (λ a. a);
+      unnumbered = over.ran.going.unnumbered;
+      lineage = over.ran.going.lineage;
+      needed = over.ran.going.needed;
       best = record { incumbent = s.incumbent; best = over.ran.going.best; point = refl; objective = refl };
       ended = over.ran.going.finished;
       no_grid = tt;
@@ -123,8 +126,8 @@ spent_by : (d : DeckValue) (start : State) (budget : Budget) (g : GrowthValue) (
 spent_by d start budget g history told h =
     subst (HasSpentPivots d budget g) (sym h.history_is) (pivots_spent d start budget g h.before h.last h.own (subst (IsHistory d start budget.pivots g) h.history_is told) h.end)
 
-spent_between : (d : DeckValue) (start : State) (budget : Budget) (g : GrowthValue) (history : History) → IsHistory d start budget.pivots g history → IsNumbered Turn g history → AreFinished history → length history ≡ budget.nodes → HasFresh g → HasSpentNodes budget g history
-spent_between d start budget g history told numbered finished all hand = record { all = all; unsolved = none_solved d start budget.pivots g history told numbered finished; hand = hand.0; fresh = hand.1 }
+spent_between : (d : DeckValue) (start : State) (budget : Budget) (best : Option Rational) (g : GrowthValue) (ids : List ℕ) (history : History) → IsHistory d start budget.pivots g history → IsNumbered Turn g history → AreFinished history → length history ≡ budget.nodes → HasHand d best g ids → HasSpentNodes d budget best g history
+spent_between d start budget best g ids history told numbered finished all hand = record { all = all; unsolved = none_solved d start budget.pivots g history told numbered finished; hand = hand.hand; fresh = hand.fresh; own = hand.own; own_is = hand.own_is; open_still = hand.open_still }
 
 cause_is : (a b : Why) → Some a ≡ Some b → a ≡ b
 cause_is a b e = cc
@@ -155,12 +158,15 @@ module _ (d : DeckValue) (formed : IsDeck d) (no_arcs : d.arcs ≡ []) (budget :
       told = s.told;
       numbered = stopping.draining.numbered;
       handed = λ id inside. (subst (λ (xs : List OpenNode). AreHandedBut g s.history (map id_of xs)) none s.others) id inside (λ a. a);
+      unnumbered = s.unnumbered;
+      lineage = s.lineage;
+      needed = s.needed;
       best = record { incumbent = i; best = s.best; point = refl; objective = refl };
       ended = s.ended;
       no_grid = no_grid;
       nodes = s.nodes;
       pivots = let h = pivots_all s.start budget.pivots s.history s.told.chained in omega (arith, h);
-      spent_nodes = λ e. spent_between d s.start budget g s.history s.told stopping.draining.numbered (subst (IsEndedBy s.history) e s.ended) (s.all (cause_is cause why.Nodes e)) (s.hand (cause_is cause why.Nodes e));
+      spent_nodes = λ e. spent_between d s.start budget (objective_of i) g (map id_of ws) s.history s.told stopping.draining.numbered (subst (IsEndedBy s.history) e s.ended) (s.all (cause_is cause why.Nodes e)) (s.hand (cause_is cause why.Nodes e));
       spent_pivots = λ e. spent_by d s.start budget g s.history s.told (subst (IsEndedBy s.history) e s.ended);
     };
   }

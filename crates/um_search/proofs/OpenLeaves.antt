@@ -2,7 +2,7 @@
 use Rattle.std.proofs.Common.{◌≡◌, ◌∙◌, ℕ, suc, ◌≤◌, pos, Bool, false, List, [], ◌∷◌, ◌++◌, length, map, Option, Some, None, refl, sym, ap, subst, arith, inl, inr, length-append}
 use Rattle.um_laws.specs.Rational.{Rational}
 use Rattle.um_multipliers.specs.PlainMultipliers.{MultipliersValue, plain_multipliers}
-use Rattle.um_model.specs.Values.{DeckValue}
+use Rattle.um_model.specs.Values.{DeckValue, PointValue}
 use Rattle.um_model.specs.Accepted.{bound_in}
 use Rattle.um_model.specs.AnswerValues.{NodeValue, WhatValue, OpenLeaf}
 use Rattle.um_model.specs.LeafValue.{leaf_value}
@@ -16,27 +16,34 @@ use Rattle.um_nodes.specs.declared.open_nodes.OpenNode.{OpenNode}
 use Rattle.um_progress.specs.declared.incumbent.Incumbent.{Incumbent}
 use Rattle.um_progress.specs.Waits.{WaitsIn, id_of}
 use Rattle.um_progress.specs.Numbers.{Number}
+use Rattle.um_progress.specs.Searches.{objective_of}
 use Rattle.um_progress.specs.Stops.{Counts, IsStopping}
 use Rattle.um_progress.proofs.Acts.{open_leaf}
 use Rattle.um_progress.proofs.Draining.{every_last}
+use Rattle.um_progress.proofs.Changes.{settle_changes}
+use Rattle.um_progress.proofs.Lineages.{settle_lineage}
 use Rattle.um_progress.proofs.Settling.{stops_in_hand}
 use Rattle.um_progress.proofs.Stopping.{last_waits, stop_act}
-use Rattle.um_turns.specs.Turns.{Turn, TurnEnd, HaltHolds, EndHolds, Became}
+use Rattle.um_turns.specs.Turns.{Turn, TurnEnd, Reached, Halted, HaltHolds, EndHolds, Became}
 use Rattle.um_turns.specs.NextTurns.{IsNextTurn, IsNoBetter}
 use Rattle.um_turns.specs.Histories.{History, IsHanded, AreHanded}
 use Rattle.um_search.specs.declared.budget.Budget.{Budget}
 use Rattle.um_loop.specs.declared.search.Search.{Search}
 use Rattle.um_loop.specs.declared.search.Halt.{Halt}
 use Rattle.um_loop.specs.Goings.{HasSpent, HaltedAt}
+use Rattle.um_loop.specs.NeededTurns.{IsNeeded}
 use Rattle.um_search.specs.Told.{IsHaltedLast, IsEndedBy}
 use Rattle.um_loop.specs.Checkables.{AreCheckable}
-use Rattle.um_search.specs.Emptying.{AreRising, AreHandedBut, IsHalted, IsEmptying}
+use Rattle.um_search.specs.Emptying.{AreRising, AreHandedBut, HasHand, IsHalted, IsEmptying}
 use Rattle.um_loop.proofs.Rising.{Rises, handed_rises, all_rise, kept_rises}
 use Rattle.um_turns.proofs.Bests.{best_stays}
 use Rattle.um_turns.proofs.Turning.{settle_history, settle_turn}
 use Rattle.um_turns.proofs.Waiting.{all_handed_more, handed_last}
-use Rattle.um_search.proofs.HandedLeaves.{leaf_of, fresh_leaf, none_but, among_last, but_on}
+use Rattle.um_search.proofs.HandedLeaves.{leaf_of, none_but, among_last, but_on, hand_here, hand_on, last_is_among, others_are_among}
 use Rattle.um_loop.proofs.Checkables.{checkable_on}
+use Rattle.um_loop.proofs.KeysClose.{open_still}
+use Rattle.um_loop.proofs.NeededTurns.{needed_more, needed_on, open_last}
+use Rattle.um_loop.proofs.UnnumberedNodes.{settled_unnumbered, unnumbered_more}
 
 -- a node that waits stands open in the tree
 pub open_of : (d : DeckValue) (g : GrowthValue) (w : OpenNode) → WaitsIn d g w → IsOpenAt g w.node
@@ -53,6 +60,10 @@ ended_by history (why.Value number step wide) other h = h
 ended_by history (why.Leaf number) other h = h
 ended_by history (why.Vertex number) other h = h
 ended_by history why.Ray other h = h
+
+-- nor at a vertex
+halted_vertex : (cause : Why) (own : Option MultipliersValue) (p : PointValue) (z : MultipliersValue) → ¬ (Halted cause own ≡ Reached p z)
+halted_vertex cause own p z e = absurd (cc)
 
 -- ---- the leaf
 leaf_is : (y z : MultipliersValue) → leaf_of y ≡ leaf_of z → y ≡ z
@@ -93,11 +104,14 @@ module _ (d : DeckValue) (no_arcs : d.arcs ≡ []) (budget : Budget) (s : Search
           handed = g.handed;
           others = but_on d s.growth g.history id (id ∷ map id_of s.open) (map id_of s.open) (node None) t.waits.fresh.inside (λ j a. a)
               (λ z same. subst (IsHanded g.history (origin_at s.growth id)) (leaf_is y z same) t.handed) (none_but s.growth g.history (id ∷ map id_of s.open) g.search.all);
+          unnumbered = settled_unnumbered s.growth g.history id (node None) (λ _. tt) g.unnumbered;
+          lineage = settle_lineage Turn d s.growth g.history id (node None) g.search.growth g.search.numbered t.waits.fresh tt (λ n e. absurd (cc)) g.lineage;
+          needed = needed_on d s.growth (after None) id (settle_changes d s.growth id (node None)) g.history t.waits.fresh.solved g.search.numbered g.needed;
           best = g.best;
           ended = subst (λ (w : Why). IsEndedBy g.history (Some w)) (sym h.cause) g.finished;
           nodes = subst (λ (k : ℕ). k ≤ budget.nodes) g.solved within;
           all = λ _. sym g.solved ∙ h.all;
-          hand = λ _. (id, fresh_leaf s.growth id y t.waits.fresh.inside);
+          hand = λ _. hand_here d (objective_of s.incumbent) s.growth id y (map id_of s.open) t.waits.fresh.inside g.search.distinct (open_still d (box_at d s.growth id) y halt.hand.key s.incumbent t.waits.key h.open_still);
         }
 
     module _ (h : HaltedAt d start budget.pivots s halt board left) where
@@ -129,6 +143,9 @@ module _ (d : DeckValue) (no_arcs : d.arcs ≡ []) (budget : Budget) (s : Search
       size : length history ≤ budget.nodes
       size = let a = length-append h.history (turn ∷ []) in let b = h.solved in omega (arith, a, b, within)
 
+      last_needed : IsNeeded d (after own) history (length h.history) turn
+      last_needed = record { handed = open_last d h.history turn (box_at d s.growth id) h.turn.handed h.hand_needed; split = λ branch p z what at. absurd (halted_vertex halt.why h.own p z (sym h.end_is ∙ at)) }
+
       in_turn : IsEmptying d budget halt.why s.incumbent (after own) s.open endless least
       in_turn = record {
         start = start;
@@ -140,6 +157,9 @@ module _ (d : DeckValue) (no_arcs : d.arcs ≡ []) (budget : Budget) (s : Search
         handed = all_handed_more s.growth h.history turn s.open h.handed;
         others = but_on d s.growth history id (id ∷ map id_of s.open) (map id_of s.open) (node own) h.waits.fresh.inside (λ j a. a)
             (λ z same. absurd (no_leaf (suc (length h.history)) h.pivots (OpenLeaf y) z same)) (none_but s.growth history (id ∷ map id_of s.open) h.search.all);
+        unnumbered = unnumbered_more (after own) h.history turn (settled_unnumbered s.growth h.history id (node own) (λ none. absurd (cc)) h.unnumbered);
+        lineage = settle_lineage Turn d s.growth h.history id (node own) h.search.growth h.search.numbered h.waits.fresh tt (λ n e. let same : suc (length h.history) ≡ n = cc in sym same) h.lineage;
+        needed = needed_more d (after own) h.history turn last_needed (needed_on d s.growth (after own) id (settle_changes d s.growth id (node own)) h.history h.waits.fresh.solved h.search.numbered h.needed);
         best = best_stays d h.history s.incumbent turn (subst (IsNoBetter d s.incumbent) (sym h.end_is) tt) h.best;
         ended = ended_by history halt.why no_budget (record { before = h.history; last = turn; own = h.own; history_is = refl; finished = h.finished; end = h.end_is });
         nodes = size;
@@ -187,9 +207,12 @@ module _ (d : DeckValue) (budget : Budget) (cause : Why) (incumbent : Option Inc
     handed = hands.1;
     others = but_on d g s.history w.node (map id_of (rest ++ w ∷ [])) (map id_of rest) leaf entry_waits.fresh.inside (among_last rest w)
         (λ z same. subst (IsHanded s.history (origin_at g w.node)) (leaf_is (plain_multipliers w.y) z same) hands.0) (subst (λ (xs : List OpenNode). AreHandedBut g s.history (map id_of xs)) is s.others);
+    unnumbered = settled_unnumbered g s.history w.node leaf (λ _. tt) s.unnumbered;
+    lineage = settle_lineage Turn d g s.history w.node leaf s.stopping.draining.growth s.stopping.draining.numbered entry_waits.fresh tt (λ n e. absurd (cc)) s.lineage;
+    needed = needed_on d g (settled g w.node leaf) w.node (settle_changes d g w.node leaf) s.history entry_waits.fresh.solved s.stopping.draining.numbered s.needed;
     best = s.best;
     ended = s.ended;
     nodes = s.nodes;
     all = s.all;
-    hand = λ _. (w.node, fresh_leaf g w.node (plain_multipliers w.y) entry_waits.fresh.inside);
+    hand = λ e. hand_on d (objective_of incumbent) g (map id_of (rest ++ w ∷ [])) (map id_of rest) w.node leaf (last_is_among rest w) (others_are_among rest w) (subst (λ (xs : List OpenNode). HasHand d (objective_of incumbent) g (map id_of xs)) is (s.hand e));
   })

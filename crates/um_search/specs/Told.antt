@@ -1,7 +1,10 @@
 -- What an answer tells of the search that it came from.
 use Rattle.std.specs.Prelude.{◌≡◌, ℕ, ◌<◌, ◌≤◌, pos, [], ◌∷◌, ◌++◌, length, Option, Some, None, IfSome}
+use Rattle.um_laws.specs.Rational.{Rational}
 use Rattle.um_multipliers.specs.PlainMultipliers.{MultipliersValue}
 use Rattle.um_model.specs.Values.{DeckValue}
+use Rattle.um_model.specs.Boxes.{BoxValue}
+use Rattle.um_model.specs.LeafValue.{Closes}
 use Rattle.um_model.specs.AnswerValues.{AnswerValue, OpenLeaf}
 use Rattle.um_model.specs.declared.answer.Why.{Why}
 use Rattle.um_model.specs.declared.answer.Why.TheVariants as why
@@ -14,10 +17,13 @@ use Rattle.um_progress.specs.declared.incumbent.Incumbent.{Incumbent}
 use Rattle.um_progress.specs.Waits.{IsOpenLeaf, IsFresh}
 use Rattle.um_progress.specs.Numbers.{Number, IsNumbered}
 use Rattle.um_progress.specs.Searches.{objective_of}
+use Rattle.um_progress.specs.Lineage.{IsLineage}
 use Rattle.um_progress.specs.Ends.{point_of}
 use Rattle.um_turns.specs.Turns.{Turn, Halted}
 use Rattle.um_turns.specs.Histories.{History, IsHanded, IsHistory, AreFinished, IsBest, pivots_of}
 use Rattle.um_loop.specs.Goings.{IsNoGrid}
+use Rattle.um_loop.specs.UnnumberedNodes.{AreUnnumbered}
+use Rattle.um_loop.specs.NeededTurns.{AreNeeded}
 use Rattle.um_search.specs.declared.budget.Budget.{Budget}
 
 -- ---- how the search ended
@@ -37,12 +43,19 @@ IsEndedBy history None = AreFinished history
 IsEndedBy history (Some why.Nodes) = AreFinished history
 IsEndedBy history (Some cause) = IsHaltedLast history cause
 
--- all nodes of the budget are solved, and none of them is an open leaf; the one in hand is one, without a number
-pub record HasSpentNodes (budget : Budget) (g : GrowthValue) (history : History) : Type 0 where
+-- the multipliers do not close a node in the box at this objective, if there is one
+abbrev pub IsOpenStill : DeckValue → Option Rational → BoxValue → MultipliersValue → Type 0
+IsOpenStill d best b y = IfSome best (λ v. ¬ Closes d b y v (pos 0))
+
+-- all nodes of the budget are solved, and none of them is an open leaf; the one in hand is one, without a number, and its own multipliers do not close it at the best objective
+pub record HasSpentNodes (d : DeckValue) (budget : Budget) (best : Option Rational) (g : GrowthValue) (history : History) : Type 0 where
   pub all : length history ≡ budget.nodes
   pub unsolved : (id : ℕ) → id < length g.nodes → IsOpenLeaf (what_at g id) → (node_at g id).solved ≡ None
   pub hand : ℕ
   pub fresh : IsFresh g hand
+  pub own : MultipliersValue
+  pub own_is : what_at g hand ≡ OpenLeaf own
+  pub open_still : IsOpenStill d best (box_at d g hand) own
 
 -- all pivots of the budget are made, and a step is due on the node of the last turn
 pub record HasSpentPivots (d : DeckValue) (budget : Budget) (g : GrowthValue) (history : History) : Type 0 where
@@ -81,10 +94,13 @@ pub record TellsBest (d : DeckValue) (history : History) (a : AnswerValue) : Typ
 --   told: each turn begins where the one before ended, its run is on the box of its node, and the node became what its end asks for
 --   numbered: the numbers in the tree are those of the turns
 --   handed: the open leaves without a number have the multipliers that they were handed
+--   unnumbered: each node without a number is void, or open, or closed with the multipliers that it was handed
+--   lineage: each split has a number, and numbers rise from parents to children
+--   needed: the best point so far closed no node that was solved, and none that was split
 --   ended: why it ended
 --   no_grid: it did not end at a vertex that asks for no branch
 --   nodes, pivots: within the budget
---   spent_nodes: where nodes were wanting, all are solved and one more is in hand
+--   spent_nodes: where nodes were wanting, all are solved and one more is in hand, which the best point does not close
 --   spent_pivots: where pivots were wanting, all were made and one more step is due
 pub record TellsSearch (d : DeckValue) (budget : Budget) (a : AnswerValue) : Type 0 where
   pub tolerance : a.tolerance ≡ pos 0
@@ -97,10 +113,13 @@ pub record TellsSearch (d : DeckValue) (budget : Budget) (a : AnswerValue) : Typ
   pub told : IsHistory d start budget.pivots growth history
   pub numbered : IsNumbered Turn growth history
   pub handed : OpenLeavesAreHanded growth history
+  pub unnumbered : AreUnnumbered growth history
+  pub lineage : IsLineage growth
+  pub needed : AreNeeded d growth history
   pub best : TellsBest d history a
   pub ended : IsEndedBy history a.why
   pub no_grid : IfSome a.why IsNoGrid
   pub nodes : length history ≤ budget.nodes
   pub pivots : pivots_of history ≤ budget.pivots
-  pub spent_nodes : a.why ≡ Some why.Nodes → HasSpentNodes budget growth history
+  pub spent_nodes : a.why ≡ Some why.Nodes → HasSpentNodes d budget a.objective growth history
   pub spent_pivots : a.why ≡ Some why.Pivots → HasSpentPivots d budget growth history
