@@ -1,16 +1,18 @@
 -- What the parts of a new child are.
-use Rattle.std.proofs.Common.{◌≡◌, ℕ, pos, [], ◌∷◌, Option, Some, None, subst}
+use Rattle.std.proofs.Common.{◌≡◌, ℕ, pos, List, [], ◌∷◌, Option, Some, None, subst}
 use Rattle.std.specs.Prelude.{IfSome}
-use Rattle.um_multipliers.specs.PlainMultipliers.{MultipliersValue}
+use Rattle.um_multipliers.specs.PlainMultipliers.{MultipliersValue, plain_multipliers}
 use Rattle.um_model.specs.Values.{DeckValue}
 use Rattle.um_model.specs.Boxes.{BoxValue}
 use Rattle.um_model.specs.AnswerValues.{NodeValue, WhatValue, Split, Bounded, Empty, Void, OpenLeaf, plain_node}
 use Rattle.um_tree.specs.Growths.{IsLeaf}
 use Rattle.um_nodes.specs.Keys.{IsKey}
 use Rattle.um_nodes.specs.declared.open_nodes.OpenNode.{OpenNode}
+use Rattle.um_progress.specs.Waits.{Every}
 use Rattle.um_progress.specs.Searches.{ChildWaits}
 use Rattle.um_progress.proofs.KeyBounds.{entry_key}
 use Rattle.um_turns.specs.NextTurns.{AreUnder}
+use Rattle.um_turns.proofs.Lists.{every_map}
 use Rattle.um_children.specs.declared.children.Child.{Child}
 use Rattle.um_children.specs.NewChildren.{IsChild, IsHanded, IsNewWhat, IsNewNode, entries_of}
 
@@ -40,7 +42,10 @@ key_of_entry d b id w (Some v) c = one_key d b id w v c
 pub child_key : (d : DeckValue) (b : BoxValue) (id : ℕ) (c : Child) → IsChild d b id c → IfSome c.entry (λ (v : OpenNode). IsKey v.key)
 child_key d b id c is = let h = is None (pos 0) in key_of_entry d b id (plain_node c.node).what c.entry h.waits
 
--- and waits under the multipliers that it was handed
-pub child_under : (id depth : ℕ) (y : MultipliersValue) (entry : Option OpenNode) → IfSome entry (IsHanded id depth y) → AreUnder y (entries_of entry)
-child_under id depth y None h = tt
-child_under id depth y (Some w) h = (h.multipliers, tt)
+-- and waits under the multipliers that it was handed, with its id and depth
+pub child_handed : (id depth : ℕ) (y : MultipliersValue) (entry : Option OpenNode) → IfSome entry (IsHanded id depth y) → Every (IsHanded id depth y) (entries_of entry)
+child_handed id depth y None h = tt
+child_handed id depth y (Some w) h = (h, tt)
+
+pub handed_under : (id depth : ℕ) (y : MultipliersValue) (more : List OpenNode) → Every (IsHanded id depth y) more → AreUnder y more
+handed_under id depth y more all = every_map (IsHanded id depth y) (λ (w : OpenNode). plain_multipliers w.y ≡ y) more (λ w h. h.multipliers) all

@@ -44,12 +44,12 @@ use Rattle.um_turns.specs.NextTurns.{IsNoBetter}
 use Rattle.um_turns.proofs.Bests.{best_stays, best_improves}
 use Rattle.um_loop.specs.declared.search.Search.{Search}
 use Rattle.um_loop.specs.declared.search.Halt.{Halt}
-use Rattle.um_loop.specs.Goings.{IsGoing, HasTaken, HaltedAt, WentOn, GoesOn}
+use Rattle.um_loop.specs.Goings.{IsKeyOf, IsGoing, HasTaken, HaltedAt, WentOn, GoesOn}
 use Rattle.um_loop.specs.Steps.{IsBestOf, IsNotClosing, HasOwn, IsKept, StoppedWith, ClosedAtVertex, BranchedAtVertex, StoppedAtGrid, VertexLed, AfterVertex, EndSays, HasSettled, emptied_search, with_best}
 use Rattle.um_loop.proofs.KeysClose.{key_closes, key_bound, new_below, vertex_closes}
 use Rattle.um_loop.proofs.NeededTurns.{none_closes}
 use Rattle.um_loop.proofs.Results.{ok_map}
-use Rattle.um_loop.proofs.Settled.{own_waits, halts, leaf_goes, split_goes}
+use Rattle.um_loop.proofs.Settled.{own_waits, own_key, halts, leaf_goes, split_goes}
 
 -- a stop of the run is one of the turn
 halt_of : (d : DeckValue) (b : BoxValue) (t : Turn) (pivots number : ℕ) (cause : Why) (own : Option MultipliersValue) → StoppedBy d b t.before pivots t.left number cause own → HaltHolds d b t pivots number cause own
@@ -148,7 +148,7 @@ module _ (d : DeckValue) (start : State) (most : ℕ) (taken : OpenNode) (s : Se
               begins = begins;
             }
 
-        branched_on : (k : Key) (asked : Option Branch) (x : Search) → KeyIs (leaf_value d box y) y.y0 k → IfSome asked (IsBranchOf d p) → IfSome asked (Fits d box) → BranchedAtVertex d box (with_best counted_search best) taken.node solved asked y k x → WentOn d start most s x after (left - pivots)
+        branched_on : (k : Key) (asked : Option Branch) (x : Search) → KeyIs (leaf_value d box y) y.y0 k → IfSome asked (IsBranchOf d p) → IfSome asked (Fits d box) → BranchedAtVertex d box (with_best counted_search best) taken solved asked y k x → WentOn d start most s x after (left - pivots)
         branched_on k asked x key_is is fits c =
             let h = c.branched in
             let kept : best ≡ s.incumbent = best_kept d box p y k s.incumbent best best_is says key_is c.open_still in
@@ -158,7 +158,7 @@ module _ (d : DeckValue) (start : State) (most : ℕ) (taken : OpenNode) (s : Se
             let second = h.second_is (objective_of best) (pos 0) in
             record {
               going = subst (λ (z : Search). IsGoing d start most None z after (left - pivots)) (sym h.after_is)
-                  (split_goes d start most taken s board left t pivots after (Reached p y) within ended still solved solved_is best searching bests tt p y refl c.branch fits_at is_at few (λ some. t.going.found (subst IsSome kept some)) (none_closes d (history ++ number ∷ []) best box y k bests key_is c.open_still) h.first h.second h.first_more h.second_more first second h.first_under h.second_under);
+                  (split_goes d start most taken s board left t pivots after (Reached p y) within ended still solved solved_is best searching bests tt p y refl c.branch fits_at is_at few (λ some. t.going.found (subst IsSome kept some)) (none_closes d (history ++ number ∷ []) best box y k bests key_is c.open_still) h.first h.second h.first_more h.second_more first second h.first_handed h.second_handed);
               solved = ap (λ (z : Search). z.solved) h.after_is;
               waiting =
                   let e = ap (λ (z : Search). length z.open) h.after_is in
@@ -168,8 +168,8 @@ module _ (d : DeckValue) (start : State) (most : ℕ) (taken : OpenNode) (s : Se
               begins = begins;
             }
 
-        stopped_on : (k : Key) (asked : Option Branch) (halt : Halt) (x : Search) → KeyIs (leaf_value d box y) y.y0 k → unsigned_abs k.value < 2 ^ 126 → (IsNone asked → AsksForNone d p) → StoppedAtGrid d (with_best counted_search best) taken.node solved asked y k halt x → HaltedAt d start most x halt after (left - pivots)
-        stopped_on k asked halt x key_is key_size none c =
+        stopped_on : (k : Key) (asked : Option Branch) (halt : Halt) (x : Search) → KeyIs (leaf_value d box y) y.y0 k → unsigned_abs k.value < 2 ^ 126 → k.id ≡ taken.key.id → k.depth ≡ taken.key.depth → (IsNone asked → AsksForNone d p) → StoppedAtGrid d (with_best counted_search best) taken.node solved asked y k halt x → HaltedAt d start most x halt after (left - pivots)
+        stopped_on k asked halt x key_is key_size key_id key_depth none c =
             let kept : best ≡ s.incumbent = best_kept d box p y k s.incumbent best best_is says key_is c.open_still in
             let cause : TurnEnd = Halted (why.Grid solved.number) (Some y) in
             let turn : Turn = record { before = board; after = after; left = left; handed = plain_multipliers taken.y; end = cause } in
@@ -181,23 +181,25 @@ module _ (d : DeckValue) (start : State) (most : ℕ) (taken : OpenNode) (s : Se
               none = none (subst IsNone (sym c.none) refl);
               are = refl;
             } in
-            let own : HasOwn d box taken.node y halt.hand = record {
+            let own : HasOwn d box taken y halt.hand = record {
               node_is = c.node_is;
               multipliers = c.multipliers;
               key_is = subst (λ (z : Key). KeyIs (leaf_value d box y) y.y0 z) (sym c.key_is) key_is;
               key_size = subst (λ (z : Key). unsigned_abs z.value < 2 ^ 126) (sym c.key_is) key_size;
+              key_id = ap (λ (z : Key). z.id) c.key_is ∙ key_id;
+              key_depth = ap (λ (z : Key). z.depth) c.key_is ∙ key_depth;
             } in
             subst (λ (z : Search). HaltedAt d start most z halt after (left - pivots)) (ap (with_best counted_search) (sym kept) ∙ sym c.same)
-            (halts d start most taken s board left t pivots after cause within run still halt (Some y) (ap (λ (z : Why). Halted z (Some y)) (sym c.cause)) c.node_is (c.number_is ∙ ap (λ (z : Solved). Some z) solved_is) few (own_waits d start most taken s board left t halt.hand y own below says.positive) c.multipliers)
+            (halts d start most taken s board left t pivots after cause within run still halt (Some y) (ap (λ (z : Why). Halted z (Some y)) (sym c.cause)) c.node_is (c.number_is ∙ ap (λ (z : Solved). Some z) solved_is) few (own_waits d start most taken s board left t halt.hand y own below says.positive) (own_key d start most taken s board left t halt.hand y own) c.multipliers)
 
-        led_on : (k : Key) (asked : Option Branch) (halt : Option Halt) (x : Search) → KeyIs (leaf_value d box y) y.y0 k → unsigned_abs k.value < 2 ^ 126 → IfSome asked (IsBranchOf d p) → (IsNone asked → AsksForNone d p) → IfSome asked (Fits d box)
-            → VertexLed d box (with_best counted_search best) taken.node solved asked y k halt x → GoesOn d start most s halt x after (left - pivots)
-        led_on k asked None x key_is key_size is none fits (inl c) = closed_on k x key_is c
-        led_on k asked None x key_is key_size is none fits (inr c) = branched_on k asked x key_is is fits c
-        led_on k asked (Some halt) x key_is key_size is none fits c = stopped_on k asked halt x key_is key_size none c
+        led_on : (k : Key) (asked : Option Branch) (halt : Option Halt) (x : Search) → KeyIs (leaf_value d box y) y.y0 k → unsigned_abs k.value < 2 ^ 126 → k.id ≡ taken.key.id → k.depth ≡ taken.key.depth → IfSome asked (IsBranchOf d p) → (IsNone asked → AsksForNone d p) → IfSome asked (Fits d box)
+            → VertexLed d box (with_best counted_search best) taken solved asked y k halt x → GoesOn d start most s halt x after (left - pivots)
+        led_on k asked None x key_is key_size key_id key_depth is none fits (inl c) = closed_on k x key_is c
+        led_on k asked None x key_is key_size key_id key_depth is none fits (inr c) = branched_on k asked x key_is is fits c
+        led_on k asked (Some halt) x key_is key_size key_id key_depth is none fits c = stopped_on k asked halt x key_is key_size key_id key_depth none c
 
-      vertex_goes : (halt : Option Halt) (x : Search) → AfterVertex d box counted_search taken.node solved p y halt x → GoesOn d start most s halt x after (left - pivots)
-      vertex_goes halt x v = led_on v.best v.best_is v.key v.asked halt x v.key_is v.key_size v.asked_is v.none_is v.fits v.led
+      vertex_goes : (halt : Option Halt) (x : Search) → AfterVertex d box counted_search taken solved p y halt x → GoesOn d start most s halt x after (left - pivots)
+      vertex_goes halt x v = led_on v.best v.best_is v.key v.asked halt x v.key_is v.key_size v.key_id v.key_depth v.asked_is v.none_is v.fits v.led
 
     -- ---- without a point
     empty_goes : (y : MultipliersValue) (halt : Option Halt) (x : Search) → AreBelow (2 ^ 40) y → EmptySays d box y → WithoutPoint d box board pivots after y → IsNone halt → x ≡ emptied_search counted_search taken.node solved y → GoesOn d start most s halt x after (left - pivots)
@@ -214,9 +216,9 @@ module _ (d : DeckValue) (start : State) (most : ℕ) (taken : OpenNode) (s : Se
         }
 
     -- ---- stopped in the run
-    hand_waits : (own : Option MultipliersValue) (hand : OpenNode) → IfSome own (OwnSays d) → IsKept d box taken own hand → (hand.node ≡ taken.node) × WaitsIn d s.growth hand × (plain_multipliers hand.y ≡ kept_multipliers (plain_multipliers taken.y) own)
-    hand_waits None hand says kept = (ap (λ (w : OpenNode). w.node) kept, subst (WaitsIn d s.growth) (sym kept) t.waits, ap (λ (w : OpenNode). plain_multipliers w.y) kept)
-    hand_waits (Some y) hand says kept = (kept.node_is, own_waits d start most taken s board left t hand y kept says.below says.positive, kept.multipliers)
+    hand_waits : (own : Option MultipliersValue) (hand : OpenNode) → IfSome own (OwnSays d) → IsKept d box taken own hand → (hand.node ≡ taken.node) × WaitsIn d s.growth hand × IsKeyOf s.growth hand × (plain_multipliers hand.y ≡ kept_multipliers (plain_multipliers taken.y) own)
+    hand_waits None hand says kept = (ap (λ (w : OpenNode). w.node) kept, subst (WaitsIn d s.growth) (sym kept) t.waits, subst (IsKeyOf s.growth) (sym kept) t.key, ap (λ (w : OpenNode). plain_multipliers w.y) kept)
+    hand_waits (Some y) hand says kept = (kept.node_is, own_waits d start most taken s board left t hand y kept says.below says.positive, own_key d start most taken s board left t hand y kept, kept.multipliers)
 
     stop_goes : (cause : Why) (own : Option MultipliersValue) (halt : Option Halt) (x : Search) → IfSome own (OwnSays d) → StoppedBy d box board pivots left (suc (length history)) cause own → StoppedWith d box counted_search taken solved cause own halt x → GoesOn d start most s halt x after (left - pivots)
     stop_goes cause own None x says ended c = absurd c
@@ -225,7 +227,7 @@ module _ (d : DeckValue) (start : State) (most : ℕ) (taken : OpenNode) (s : Se
         let hand = hand_waits own halt.hand says k.kept in
         let turn : Turn = record { before = board; after = after; left = left; handed = plain_multipliers taken.y; end = Halted cause own } in
         subst (λ (z : Search). HaltedAt d start most z halt after (left - pivots)) (sym c.1)
-        (halts d start most taken s board left t pivots after (Halted cause own) within (halt_of d box turn pivots (suc (length history)) cause own ended) still halt own (ap (λ (z : Why). Halted z own) (sym k.cause_is)) hand.0 (k.number_is ∙ ap (λ (z : Solved). Some z) solved_is) few hand.1 hand.2)
+        (halts d start most taken s board left t pivots after (Halted cause own) within (halt_of d box turn pivots (suc (length history)) cause own ended) still halt own (ap (λ (z : Why). Halted z own) (sym k.cause_is)) hand.0 (k.number_is ∙ ap (λ (z : Solved). Some z) solved_is) few hand.1 hand.2 hand.3)
 
     -- ---- however it ended
     goes : (e : NodeEnd) (halt : Option Halt) (x : Search) → EndSays d box e → EndedAs d box board pivots left (suc (length history)) e after → HasSettled d box counted_search taken solved e halt x → GoesOn d start most s halt x after (left - pivots)

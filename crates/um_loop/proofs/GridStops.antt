@@ -23,8 +23,8 @@ use Rattle.um_loop.proofs.KeysClose.{best_below, vertex_closes}
 use Rattle.um_loop.proofs.Results.{ok_map}
 
 -- at a vertex
-no_stop : (d : DeckValue) (b : BoxValue) (before : Search) (id : ℕ) (solved : Solved) (p : PointValue) (y : MultipliersValue) (halt : Halt) (after : Search) → IsVertex d b p y → ¬ AfterVertex d b before id solved p y (Some halt) after
-no_stop d b before id solved p y halt after is v =
+no_stop : (d : DeckValue) (b : BoxValue) (before : Search) (taken : OpenNode) (solved : Solved) (p : PointValue) (y : MultipliersValue) (halt : Halt) (after : Search) → IsVertex d b p y → ¬ AfterVertex d b before taken solved p y (Some halt) after
+no_stop d b before taken solved p y halt after is v =
     let asks = v.none_is (subst (λ (o : Option Branch). IsNone o) (sym v.led.none) refl) in
     vertex_closes d b p y v.key v.best is.says v.key_is (best_below d p before.incumbent v.best v.best_is (is.feasible asks)) v.led.open_still
 
@@ -47,7 +47,7 @@ module _ (d : DeckValue) (b : BoxValue) (before : Search) (taken : OpenNode) (so
 
   settled : (e : NodeEnd) (halt : Option Halt) → EndSays d b e → EndedAs d b board pivots left number e state → HasSettled d b before taken solved e halt after → IfSome halt (λ (h : Halt). IsNoGrid h.why)
   settled (end.Vertex point y) None says ended c = tt
-  settled (end.Vertex point y) (Some halt) says ended c = absurd (no_stop d b before taken.node solved (plain_point point) (plain_multipliers y) halt after says c)
+  settled (end.Vertex point y) (Some halt) says ended c = absurd (no_stop d b before taken solved (plain_point point) (plain_multipliers y) halt after says c)
   settled (end.Empty y) None says ended c = tt
   settled (end.Empty y) (Some halt) says ended c = absurd (let none = c.0 in cc)
   settled (end.Stopped cause own) halt says ended c = stopped cause (option_map plain_multipliers own) halt (run_stop d b board pivots left number cause (option_map plain_multipliers own) ended) c

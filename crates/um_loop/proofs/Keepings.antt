@@ -1,5 +1,5 @@
 -- What becomes of a node in hand keeps that the nodes of the tree speak of rows and columns that the deck has, and how many numbers are counted.
-use Rattle.std.proofs.Common.{◌≡◌, ℕ, ◌<◌, length, inl, inr, Option, Some, None, refl, sym, subst}
+use Rattle.std.proofs.Common.{◌≡◌, ℕ, ◌+◌, ◌<◌, length, inl, inr, Option, Some, None, refl, sym, subst}
 use Rattle.std.specs.Prelude.{option_map, Result, IfOk}
 use Rattle.um_num.specs.declared.Memory.{Memory}
 use Rattle.um_multipliers.specs.PlainMultipliers.{MultipliersValue, plain_multipliers}
@@ -42,16 +42,16 @@ closed_keeps d before id solved y bound after rises all c =
     let node : NodeValue = record { solved = solved; what = Bounded y } in
     subst (Keeps d before) (sym c.after_is) (checkable_on d before.growth id node rises all, refl)
 
-branched_keeps : (d : DeckValue) (b : BoxValue) (before : Search) (id : ℕ) (solved : Solved) (branch : Branch) (y : MultipliersValue) (after : Search) → id < length before.growth.nodes → AreCheckable d before.growth → HasBranched d b before id solved branch y after → Keeps d before after
-branched_keeps d b before id solved branch y after inside all c =
+branched_keeps : (d : DeckValue) (b : BoxValue) (before : Search) (id depth : ℕ) (solved : Solved) (branch : Branch) (y : MultipliersValue) (after : Search) → id < length before.growth.nodes → AreCheckable d before.growth → HasBranched d b before id depth solved branch y after → Keeps d before after
+branched_keeps d b before id depth solved branch y after inside all c =
     let first = new_checkable d (left d b branch) c.first.what c.first_new in
     let second = new_checkable d (right d b branch) c.second.what c.second_new in
     subst (Keeps d before) (sym c.after_is) (checkable_parted d before.growth id (Some solved) branch c.first c.second inside first second all, refl)
 
-led_keeps : (d : DeckValue) (b : BoxValue) (before : Search) (id : ℕ) (solved : Solved) (asked : Option Branch) (y : MultipliersValue) (k : Key) (halt : Option Halt) (after : Search) → id < length before.growth.nodes → Rises d y → AreCheckable d before.growth → VertexLed d b before id solved asked y k halt after → Keeps d before after
-led_keeps d b before id solved asked y k None after inside rises all (inl c) = closed_keeps d before id (Some solved) y c.bound after rises all c.closed
-led_keeps d b before id solved asked y k None after inside rises all (inr c) = branched_keeps d b before id solved c.branch y after inside all c.branched
-led_keeps d b before id solved asked y k (Some halt) after inside rises all c = subst (Keeps d before) (sym c.same) (all, refl)
+led_keeps : (d : DeckValue) (b : BoxValue) (before : Search) (taken : OpenNode) (solved : Solved) (asked : Option Branch) (y : MultipliersValue) (k : Key) (halt : Option Halt) (after : Search) → taken.node < length before.growth.nodes → Rises d y → AreCheckable d before.growth → VertexLed d b before taken solved asked y k halt after → Keeps d before after
+led_keeps d b before taken solved asked y k None after inside rises all (inl c) = closed_keeps d before taken.node (Some solved) y c.bound after rises all c.closed
+led_keeps d b before taken solved asked y k None after inside rises all (inr c) = branched_keeps d b before taken.node (taken.key.depth + 1) solved c.branch y after inside all c.branched
+led_keeps d b before taken solved asked y k (Some halt) after inside rises all c = subst (Keeps d before) (sym c.same) (all, refl)
 
 stopped_keeps : (d : DeckValue) (b : BoxValue) (before : Search) (taken : OpenNode) (solved : Solved) (cause : Why) (own : Option MultipliersValue) (halt : Option Halt) (after : Search) → AreCheckable d before.growth → StoppedWith d b before taken solved cause own halt after → Keeps d before after
 stopped_keeps d b before taken solved cause own None after all c = absurd c
@@ -59,7 +59,7 @@ stopped_keeps d b before taken solved cause own (Some halt) after all c = subst 
 
 -- however the node ended
 settled_keeps : (d : DeckValue) (b : BoxValue) (before : Search) (taken : OpenNode) (solved : Solved) (e : NodeEnd) (halt : Option Halt) (after : Search) → taken.node < length before.growth.nodes → EndSays d b e → AreCheckable d before.growth → HasSettled d b before taken solved e halt after → Keeps d before after
-settled_keeps d b before taken solved (end.Vertex point y) halt after inside says all c = led_keeps d b (with_best before c.best) taken.node solved c.asked (plain_multipliers y) c.key halt after inside says.says.rising all c.led
+settled_keeps d b before taken solved (end.Vertex point y) halt after inside says all c = led_keeps d b (with_best before c.best) taken solved c.asked (plain_multipliers y) c.key halt after inside says.says.rising all c.led
 settled_keeps d b before taken solved (end.Empty y) halt after inside says all c =
     let node : NodeValue = record { solved = Some solved; what = Empty (plain_multipliers y) } in
     subst (Keeps d before) (sym c.1) (checkable_on d before.growth taken.node node says.1.rising all, refl)

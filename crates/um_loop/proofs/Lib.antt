@@ -2,6 +2,7 @@ pub mod KeysClose
 pub mod TreeBoxes
 pub mod AskedBranches
 pub mod ChildParts
+pub mod Depths
 pub mod Takings
 pub mod UnnumberedNodes
 pub mod NeededTurns

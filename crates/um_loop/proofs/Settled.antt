@@ -15,35 +15,40 @@ use Rattle.um_model.specs.declared.branch.Branch.{Branch}
 use Rattle.um_model.specs.declared.tree.Solved.{Solved}
 use Rattle.um_lp.specs.States.{State}
 use Rattle.um_laws.proofs.Places.{at_set}
-use Rattle.um_tree.specs.Growths.{IsLeaf, no_node, origin_at, parted, settled}
-use Rattle.um_tree.proofs.Writes.{no_leaf}
+use Rattle.um_tree.specs.Growths.{IsGrowth, IsLeaf, no_node, origin_at, what_at, parted, settled}
+use Rattle.um_tree.proofs.Writes.{no_leaf, growth_after}
 use Rattle.um_cover.specs.Nodes.{NodeIs, OpenIs}
-use Rattle.um_cover.specs.Sites.{box_at}
+use Rattle.um_cover.specs.Sites.{way, box_at}
 use Rattle.um_nodes.specs.declared.open_nodes.OpenNode.{OpenNode}
 use Rattle.um_progress.specs.declared.incumbent.Incumbent.{Incumbent}
 use Rattle.um_progress.specs.Numbers.{Number}
-use Rattle.um_progress.specs.Waits.{IsFresh, KeyIs, WaitsIn}
+use Rattle.um_progress.specs.Waits.{Every, IsFresh, KeyIs, WaitsIn}
 use Rattle.um_progress.specs.Searches.{objective_of, IsSearch, ChildIs, Settles}
 use Rattle.um_progress.specs.Lineage.{number_of, IsLineage}
+use Rattle.um_progress.proofs.Acts.{open_leaf}
 use Rattle.um_progress.proofs.Settling.{settles_search}
 use Rattle.um_progress.proofs.Changes.{IsChange, settle_changes, split_changes}
 use Rattle.um_progress.proofs.Lineages.{settle_lineage, part_lineage}
 use Rattle.um_progress.proofs.Parting.{part_act}
 use Rattle.um_split.specs.Branchings.{IsBranchOf}
+use Rattle.um_children.specs.NewChildren.{IsHanded}
 use Rattle.um_turns.specs.Turns.{Turn, TurnEnd, Reached, Halted, EndHolds, Became, IsFinished, kept_multipliers}
-use Rattle.um_turns.specs.Histories.{History, HasVertex, IsHanded, IsBest, left_behind}
-use Rattle.um_turns.specs.NextTurns.{IsNextTurn, AreUnder}
+use Rattle.um_turns.specs.Histories.{History, HasVertex, IsHanded as IsHandedBy, IsBest, left_behind}
+use Rattle.um_turns.specs.NextTurns.{IsNextTurn}
 use Rattle.um_turns.proofs.Chains.{state_more, left_more}
 use Rattle.um_turns.proofs.Lists.{every_more}
 use Rattle.um_turns.proofs.Turning.{settle_history, settle_turn, part_turn}
 use Rattle.um_turns.proofs.Waiting.{all_handed_more, part_handed}
 use Rattle.um_loop.specs.declared.search.Search.{Search}
 use Rattle.um_loop.specs.declared.search.Halt.{Halt}
-use Rattle.um_loop.specs.Goings.{IsGoing, HasTaken, HaltedAt}
+use Rattle.um_loop.specs.Goings.{IsKeyOf, IsGoing, HasTaken, HaltedAt}
 use Rattle.um_loop.specs.NeededTurns.{IsOpenBefore, IsNeeded}
 use Rattle.um_loop.specs.Steps.{IsClosing, IsNotClosing, HasClosed, HasOwn}
+use Rattle.um_loop.proofs.ChildParts.{handed_under}
+use Rattle.um_loop.proofs.Depths.{keys_settled, part_keys}
 use Rattle.um_loop.proofs.KeysClose.{key_closes, key_bound}
 use Rattle.um_loop.proofs.NeededTurns.{none_closes, needed_more, needed_on, open_last}
+use Rattle.um_loop.proofs.Takings.{room_of}
 use Rattle.um_loop.proofs.UnnumberedNodes.{settled_unnumbered, parted_unnumbered, unnumbered_more, child_leaf, child_unbounded}
 
 -- what the node in hand becomes is a leaf
@@ -81,6 +86,7 @@ module _ (d : DeckValue) (start : State) (most : ℕ) (taken : OpenNode) (s : Se
         told = settle_history d start most s.growth history taken.node t.waits.fresh.solved t.going.search.numbered t.going.told node;
         finished = t.going.finished;
         handed = t.going.handed;
+        keys = keys_settled s.growth taken.node node s.open t.going.keys;
         unnumbered = settled_unnumbered s.growth history taken.node node (λ _. t.handed) t.going.unnumbered;
         lineage = settle_lineage Turn d s.growth history taken.node node t.going.search.growth t.going.search.numbered t.waits.fresh tt (λ n e. absurd (cc)) t.going.lineage;
         needed = needed_on d s.growth (settled s.growth taken.node node) taken.node (settle_changes d s.growth taken.node node) history t.waits.fresh.solved t.going.search.numbered t.going.needed;
@@ -91,7 +97,7 @@ module _ (d : DeckValue) (start : State) (most : ℕ) (taken : OpenNode) (s : Se
       })
 
   -- ---- it keeps its own multipliers
-  pub own_waits : (w : OpenNode) (y : MultipliersValue) → HasOwn d box taken.node y w → AreBelow (2 ^ 40) y → pos 0 <ℤ y.y0 → WaitsIn d s.growth w
+  pub own_waits : (w : OpenNode) (y : MultipliersValue) → HasOwn d box taken y w → AreBelow (2 ^ 40) y → pos 0 <ℤ y.y0 → WaitsIn d s.growth w
   own_waits w y own below positive =
       let same : box ≡ box_at d s.growth w.node = ap (box_at d s.growth) (sym own.node_is) in
       let placed : OpenIs d box y = record { full = t.waits.bounds.full; small = below; y0 = positive } in
@@ -101,6 +107,9 @@ module _ (d : DeckValue) (start : State) (most : ℕ) (taken : OpenNode) (s : Se
         key = subst (λ (b : BoxValue). KeyIs (leaf_value d b (plain_multipliers w.y)) w.y.y0 w.key) same (subst (λ (m : MultipliersValue). KeyIs (leaf_value d box m) m.y0 w.key) (sym own.multipliers) own.key_is);
         size = own.key_size;
       }
+
+  pub own_key : (w : OpenNode) (y : MultipliersValue) → HasOwn d box taken y w → IsKeyOf s.growth w
+  own_key w y own = record { id_is = own.key_id ∙ t.key.id_is ∙ sym own.node_is; depth_is = own.key_depth ∙ t.key.depth_is ∙ ap (λ (j : ℕ). length (way s.growth j)) (sym own.node_is) }
 
   module _ (pivots : ℕ) (after : State) (end : TurnEnd) where
     abbrev turn : Turn
@@ -129,14 +138,15 @@ module _ (d : DeckValue) (start : State) (most : ℕ) (taken : OpenNode) (s : Se
       handed_open = λ k p before here feasible. none_closes d history s.incumbent box handed taken.key t.going.best t.waits.key still k p here feasible
 
       -- ---- the search stops, and the node stays in hand
-      pub halts : (halt : Halt) (own : Option MultipliersValue) → end ≡ Halted halt.why own → halt.hand.node ≡ taken.node → halt.solved ≡ Some counted → s.solved < 100000 → WaitsIn d s.growth halt.hand → plain_multipliers halt.hand.y ≡ kept_multipliers handed own
+      pub halts : (halt : Halt) (own : Option MultipliersValue) → end ≡ Halted halt.why own → halt.hand.node ≡ taken.node → halt.solved ≡ Some counted → s.solved < 100000 → WaitsIn d s.growth halt.hand → IsKeyOf s.growth halt.hand → plain_multipliers halt.hand.y ≡ kept_multipliers handed own
           → HaltedAt d start most (record s { solved = s.solved + 1 }) halt after (left - pivots)
-      halts halt own end_is node_is solved few waits kept = record {
+      halts halt own end_is node_is solved few waits hand_key kept = record {
         history = history;
         search = subst (λ (id : ℕ). IsSearch Turn d (pos 0) history (Some id) s.growth s.open s.incumbent s.least) (sym node_is) t.going.search;
         told = t.going.told;
         finished = t.going.finished;
         handed = t.going.handed;
+        keys = t.going.keys;
         unnumbered = t.going.unnumbered;
         lineage = t.going.lineage;
         needed = t.going.needed;
@@ -154,8 +164,9 @@ module _ (d : DeckValue) (start : State) (most : ℕ) (taken : OpenNode) (s : Se
         left_is = t.going.left_is;
         within = within;
         hand_needed = subst (λ (id : ℕ). IsOpenBefore d history (length history) (box_at d s.growth id) handed) (sym node_is) handed_open;
-        handed_is = subst (λ (id : ℕ). IsHanded history (origin_at s.growth id) handed) (sym node_is) t.handed;
+        handed_is = subst (λ (id : ℕ). IsHandedBy history (origin_at s.growth id) handed) (sym node_is) t.handed;
         waits = waits;
+        hand_key = hand_key;
         kept = kept;
         board_is = refl;
         rest_is = refl;
@@ -183,6 +194,7 @@ module _ (d : DeckValue) (start : State) (most : ℕ) (taken : OpenNode) (s : Se
               told = settle_turn d start most s.growth history taken.node t.waits.fresh.solved t.going.search.numbered t.going.told node number t.waits.fresh.inside next became;
               finished = every_more (λ (n : Number Turn). IsFinished n.told.end) history number t.going.finished finished;
               handed = all_handed_more s.growth history number s.open t.going.handed;
+              keys = keys_settled s.growth taken.node node s.open t.going.keys;
               unnumbered = unnumbered_more (settled s.growth taken.node node) history number (settled_unnumbered s.growth history taken.node node (λ none. absurd (cc)) t.going.unnumbered);
               lineage = settle_lineage Turn d s.growth history taken.node node t.going.search.growth t.going.search.numbered t.waits.fresh (settles_leaf d box what s.least least settles) (next_number solved what (suc (length history)) (ap (λ (x : Solved). x.number) solved_is)) t.going.lineage;
               needed = needed_more d (settled s.growth taken.node node) history number (leaf_needed what least settles) (needed_on d s.growth (settled s.growth taken.node node) taken.node (settle_changes d s.growth taken.node node) history t.waits.fresh.solved t.going.search.numbered t.going.needed);
@@ -195,7 +207,7 @@ module _ (d : DeckValue) (start : State) (most : ℕ) (taken : OpenNode) (s : Se
         -- as a split
         module _ (p : PointValue) (y : MultipliersValue) (end_is : end ≡ Reached p y) (branch : Branch) (fits : Fits d box branch) (asked : IsBranchOf d p branch) (few : s.solved < 100000) (found : IsSome best → IsSome s.least)
             (none_closing : (k : ℕ) (q : PointValue) → HasVertex longer k q → Feasible d q → ¬ Closes d box y (objective d q) (pos 0)) where
-          module _ (l r : NodeValue) (more_left more_right : List OpenNode) (cl : ChildIs d (objective_of best) (pos 0) (left_box d box branch) (length s.growth.nodes) l more_left) (cr : ChildIs d (objective_of best) (pos 0) (right_box d box branch) (suc (length s.growth.nodes)) r more_right) (ul : AreUnder y more_left) (ur : AreUnder y more_right) where
+          module _ (l r : NodeValue) (more_left more_right : List OpenNode) (cl : ChildIs d (objective_of best) (pos 0) (left_box d box branch) (length s.growth.nodes) l more_left) (cr : ChildIs d (objective_of best) (pos 0) (right_box d box branch) (suc (length s.growth.nodes)) r more_right) (hl : Every (IsHanded (length s.growth.nodes) (taken.key.depth + 1) y) more_left) (hr : Every (IsHanded (suc (length s.growth.nodes)) (taken.key.depth + 1) y) more_right) where
             became : Became d handed end (Split branch)
             became = subst (λ (e : TurnEnd). Became d handed e (Split branch)) (sym end_is) asked
 
@@ -205,6 +217,11 @@ module _ (d : DeckValue) (start : State) (most : ℕ) (taken : OpenNode) (s : Se
             split_change : IsChange d s.growth (parted s.growth taken.node (Some solved) branch l r) taken.node
             split_change = split_changes d s.growth taken.node (Some solved) branch l r t.going.search.growth t.waits.fresh.inside cl.solved cr.solved
                 (child_unbounded d (left_box d box branch) (length s.growth.nodes) l.what more_left cl.waits) (child_unbounded d (right_box d box branch) (suc (length s.growth.nodes)) r.what more_right cr.waits)
+
+            parted_growth : IsGrowth (parted s.growth taken.node (Some solved) branch l r)
+            parted_growth = growth_after s.growth taken.node (Some solved) branch l r t.waits.fresh.inside t.going.search.growth (open_leaf (what_at s.growth taken.node) t.waits.fresh.open_leaf)
+                (child_leaf d (left_box d box branch) (length s.growth.nodes) l.what more_left cl.waits) (child_leaf d (right_box d box branch) (suc (length s.growth.nodes)) r.what more_right cr.waits)
+                (room_of d start most taken s board left t few)
 
             same_vertex : (q : PointValue) (z : MultipliersValue) → Reached p y ≡ Reached q z → y ≡ z
             same_vertex q z e = cc
@@ -235,7 +252,8 @@ module _ (d : DeckValue) (start : State) (most : ℕ) (taken : OpenNode) (s : Se
                   t.going.lineage);
               needed = needed_more d (parted s.growth taken.node (Some solved) branch l r) history number split_needed
                   (needed_on d s.growth (parted s.growth taken.node (Some solved) branch l r) taken.node split_change history t.waits.fresh.solved t.going.search.numbered t.going.needed);
-              handed = part_handed d s.growth history taken.node t.going.search.growth (Some solved) branch l r number refl p y end_is (left_box d box branch) (right_box d box branch) s.open more_left more_right cl.waits cr.waits ul ur t.going.search.waits t.going.handed;
+              handed = part_handed d s.growth history taken.node t.going.search.growth (Some solved) branch l r number refl p y end_is (left_box d box branch) (right_box d box branch) s.open more_left more_right cl.waits cr.waits (handed_under (length s.growth.nodes) (taken.key.depth + 1) y more_left hl) (handed_under (suc (length s.growth.nodes)) (taken.key.depth + 1) y more_right hr) t.going.search.waits t.going.handed;
+              keys = part_keys s.growth taken.node (Some solved) branch l r t.going.search.growth parted_growth t.waits.fresh.inside d (left_box d box branch) (right_box d box branch) taken.key.depth y s.open more_left more_right t.key.depth_is cl.waits cr.waits hl hr t.going.search.waits t.going.keys;
               best = bests;
               board_is = sym (state_more start history number);
               left_is = rest_is;

@@ -5,10 +5,10 @@ use Rattle.um_model.specs.Values.{DeckValue}
 use Rattle.um_model.specs.declared.answer.Why.{Why}
 use Rattle.um_model.specs.declared.answer.Why.TheVariants as why
 use Rattle.um_lp.specs.States.{State}
-use Rattle.um_tree.specs.Growths.{origin_at}
-use Rattle.um_cover.specs.Sites.{box_at}
+use Rattle.um_tree.specs.Growths.{GrowthValue, origin_at}
+use Rattle.um_cover.specs.Sites.{way, box_at}
 use Rattle.um_nodes.specs.declared.open_nodes.OpenNode.{OpenNode}
-use Rattle.um_progress.specs.Waits.{WaitsIn}
+use Rattle.um_progress.specs.Waits.{Every, WaitsIn}
 use Rattle.um_progress.specs.Searches.{IsSearch}
 use Rattle.um_progress.specs.Lineage.{IsLineage}
 use Rattle.um_solving.specs.Laws.{MayBegin}
@@ -25,12 +25,18 @@ pub record Beginning : Type 0 where
   pub start : State
   pub most : ℕ
 
+-- the key of an entry has the id of its node, and the node's depth: as many steps as the way up to the root has
+pub record IsKeyOf (g : GrowthValue) (w : OpenNode) : Type 0 where
+  pub id_is : w.key.id ≡ w.node
+  pub depth_is : w.key.depth ≡ length (way g w.node)
+
 -- A search of a deck with the tolerance 0, that began with a board in the state `start` and `most` pivots. `hand` is a node
 -- that was taken and is not settled yet.
 --   search: what holds of its tree, of what waits, and of the best point
 --   solved: each number is counted
 --   told: the turns hold; finished: the search stopped in none
 --   handed: what waits has the multipliers that it was handed
+--   keys: its keys have the ids and the depths of the nodes
 --   unnumbered: each node without a number is void, or open, or closed with the multipliers that it was handed
 --   lineage: each split has a number, and numbers rise from parents to children
 --   needed: the best point so far closed no node that was solved, and none that was split
@@ -44,6 +50,7 @@ pub record IsGoing (d : DeckValue) (start : State) (most : ℕ) (hand : Option �
   pub told : IsHistory d start most s.growth history
   pub finished : AreFinished history
   pub handed : AreHanded s.growth history s.open
+  pub keys : Every (IsKeyOf s.growth) s.open
   pub unnumbered : AreUnnumbered s.growth history
   pub lineage : IsLineage s.growth
   pub needed : AreNeeded d s.growth history
@@ -52,11 +59,12 @@ pub record IsGoing (d : DeckValue) (start : State) (most : ℕ) (hand : Option �
   pub left_is : left ≡ left_behind most history
   pub found : IsSome s.incumbent → IsSome s.least
 
--- an entry was taken: its node is in hand, with the multipliers that it was handed, and its key is theirs
+-- an entry was taken: its node is in hand, with the multipliers that it was handed, and its key is theirs, with the node's id and depth
 pub record HasTaken (d : DeckValue) (start : State) (most : ℕ) (taken : OpenNode) (s : Search) (board : State) (left : ℕ) : Type 0 where
   pub going : IsGoing d start most (Some taken.node) s board left
   pub waits : WaitsIn d s.growth taken
   pub handed : IsHanded going.history (origin_at s.growth taken.node) (plain_multipliers taken.y)
+  pub key : IsKeyOf s.growth taken
 
 -- ---- an early stop
 
@@ -74,7 +82,7 @@ pub record HasSpent (d : DeckValue) (start : State) (most nodes : ℕ) (s : Sear
   pub open_still : IsNotClosing d s.incumbent halt.hand.key
 
 -- The search stopped in the last turn, on the node in hand, which is open in the tree and has no number there yet. The history is that of the turns before.
---   search, told, finished, handed, unnumbered, lineage, needed, best, found: as of a search that goes on, with the node in hand
+--   search, told, finished, handed, keys, unnumbered, lineage, needed, best, found: as of a search that goes on, with the node in hand
 --   solved: the last turn is counted, too; few: it is one of the first 100,000
 --   turn, pivots, own: the last turn, its pivots, and the node's own multipliers where they were read
 --   end_is: it ended early, for the cause of the stop
@@ -84,6 +92,7 @@ pub record HasSpent (d : DeckValue) (start : State) (most nodes : ℕ) (s : Sear
 --   handed_is: the node was handed these multipliers
 --   hand_needed: they close it at no vertex so far
 --   waits: the multipliers that the node keeps bound its box, and its key is theirs
+--   hand_key: the key has the node's id and depth
 --   kept: they are its own where they were read, else those that it was handed
 --   board_is, rest_is: the board is in the state, and as many pivots are left, as behind the last turn
 pub record HaltedAt (d : DeckValue) (start : State) (most : ℕ) (s : Search) (halt : Halt) (board : State) (rest : ℕ) : Type 0 where
@@ -92,6 +101,7 @@ pub record HaltedAt (d : DeckValue) (start : State) (most : ℕ) (s : Search) (h
   pub told : IsHistory d start most s.growth history
   pub finished : AreFinished history
   pub handed : AreHanded s.growth history s.open
+  pub keys : Every (IsKeyOf s.growth) s.open
   pub unnumbered : AreUnnumbered s.growth history
   pub lineage : IsLineage s.growth
   pub needed : AreNeeded d s.growth history
@@ -111,6 +121,7 @@ pub record HaltedAt (d : DeckValue) (start : State) (most : ℕ) (s : Search) (h
   pub handed_is : IsHanded history (origin_at s.growth halt.hand.node) turn.handed
   pub hand_needed : IsOpenBefore d history (length history) (box_at d s.growth halt.hand.node) turn.handed
   pub waits : WaitsIn d s.growth halt.hand
+  pub hand_key : IsKeyOf s.growth halt.hand
   pub kept : plain_multipliers halt.hand.y ≡ kept_multipliers turn.handed own
   pub board_is : board ≡ turn.after
   pub rest_is : rest ≡ turn.left - pivots

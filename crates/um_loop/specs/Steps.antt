@@ -1,5 +1,5 @@
 -- What each act changes of a search.
-use Rattle.std.specs.Prelude.{◌≡◌, ◌≢◌, ℕ, suc, ◌<◌, ◌^◌, ℤ, pos, unsigned_abs, ◌⊎◌, List, ◌++◌, length, Option, Some, None, IsNone, IsSomeAnd, IfSome, option_map}
+use Rattle.std.specs.Prelude.{◌≡◌, ◌≢◌, ℕ, suc, ◌+◌, ◌<◌, ◌^◌, ℤ, pos, unsigned_abs, ◌⊎◌, List, ◌++◌, length, Option, Some, None, IsNone, IsSomeAnd, IfSome, option_map}
 use Rattle.um_laws.specs.Rational.{Rational}
 use Rattle.um_multipliers.specs.PlainMultipliers.{MultipliersValue, plain_multipliers}
 use Rattle.um_model.specs.Values.{DeckValue, PointValue, plain_point}
@@ -22,12 +22,11 @@ use Rattle.um_tree.specs.Growths.{parted, settled}
 use Rattle.um_nodes.specs.declared.open_nodes.Key.{Key}
 use Rattle.um_nodes.specs.declared.open_nodes.OpenNode.{OpenNode}
 use Rattle.um_progress.specs.declared.incumbent.Incumbent.{Incumbent}
-use Rattle.um_progress.specs.Waits.{KeyIs}
+use Rattle.um_progress.specs.Waits.{Every, KeyIs}
 use Rattle.um_progress.specs.Searches.{objective_of, IsLesser, ChildIs}
-use Rattle.um_children.specs.NewChildren.{IsNewNode}
+use Rattle.um_children.specs.NewChildren.{IsHanded, IsNewNode}
 use Rattle.um_split.specs.Branchings.{IsBranchOf, AsksForNone}
 use Rattle.um_split.specs.Laws.{IsPointOf}
-use Rattle.um_turns.specs.NextTurns.{AreUnder}
 use Rattle.um_loop.specs.declared.search.Search.{Search}
 use Rattle.um_loop.specs.declared.search.Halt.{Halt}
 
@@ -87,16 +86,16 @@ emptied_search s id solved y = record s { growth = settled s.growth id (record {
 abbrev pub branched_search : Search → ℕ → Solved → Branch → NodeValue → NodeValue → List OpenNode → List OpenNode → Search
 branched_search s id solved branch first second first_more second_more = record s { growth = parted s.growth id (Some solved) branch first second; «open» = (s.open ++ first_more) ++ second_more }
 
--- a node became a split, and the entries of its open children wait, under these multipliers; a child stands void or under 1 and none in the tree
-pub record HasBranched (d : DeckValue) (b : BoxValue) (before : Search) (id : ℕ) (solved : Solved) (branch : Branch) (y : MultipliersValue) (after : Search) : Type 0 where
+-- a node became a split, and the entries of its open children, of this depth, wait under these multipliers and under their own ids; a child stands void or under 1 and none in the tree
+pub record HasBranched (d : DeckValue) (b : BoxValue) (before : Search) (id depth : ℕ) (solved : Solved) (branch : Branch) (y : MultipliersValue) (after : Search) : Type 0 where
   pub first : NodeValue
   pub second : NodeValue
   pub first_more : List OpenNode
   pub second_more : List OpenNode
   pub first_is : (incumbent : Option Rational) (tolerance : ℤ) → ChildIs d incumbent tolerance (left d b branch) (length before.growth.nodes) first first_more
   pub second_is : (incumbent : Option Rational) (tolerance : ℤ) → ChildIs d incumbent tolerance (right d b branch) (suc (length before.growth.nodes)) second second_more
-  pub first_under : AreUnder y first_more
-  pub second_under : AreUnder y second_more
+  pub first_handed : Every (IsHanded (length before.growth.nodes) depth y) first_more
+  pub second_handed : Every (IsHanded (suc (length before.growth.nodes)) depth y) second_more
   pub first_new : IsNewNode d (left d b branch) first
   pub second_new : IsNewNode d (right d b branch) second
   pub after_is : after ≡ branched_search before id solved branch first second first_more second_more
@@ -109,12 +108,12 @@ pub record ClosedAtVertex (d : DeckValue) (before : Search) (id : ℕ) (solved :
   pub closing : IsClosing d before.incumbent k bound
   pub closed : HasClosed before id (Some solved) y bound after
 
--- the key does not close it, and it is branched
-pub record BranchedAtVertex (d : DeckValue) (b : BoxValue) (before : Search) (id : ℕ) (solved : Solved) (asked : Option Branch) (y : MultipliersValue) (k : Key) (after : Search) : Type 0 where
+-- the key does not close it, and it is branched: its children are one step below it
+pub record BranchedAtVertex (d : DeckValue) (b : BoxValue) (before : Search) (taken : OpenNode) (solved : Solved) (asked : Option Branch) (y : MultipliersValue) (k : Key) (after : Search) : Type 0 where
   pub open_still : IsNotClosing d before.incumbent k
   pub branch : Branch
   pub asked_is : asked ≡ Some branch
-  pub branched : HasBranched d b before id solved branch y after
+  pub branched : HasBranched d b before taken.node (taken.key.depth + 1) solved branch y after
 
 -- the key does not close it, and no branch is asked for: the search stops, and the node keeps the multipliers of the vertex
 pub record StoppedAtGrid (d : DeckValue) (before : Search) (id : ℕ) (solved : Solved) (asked : Option Branch) (y : MultipliersValue) (k : Key) (halt : Halt) (after : Search) : Type 0 where
@@ -128,16 +127,16 @@ pub record StoppedAtGrid (d : DeckValue) (before : Search) (id : ℕ) (solved : 
   pub multipliers : plain_multipliers halt.hand.y ≡ y
 
 -- where the vertex led, for which this branch is asked, if one is
-abbrev pub VertexLed : DeckValue → BoxValue → Search → ℕ → Solved → Option Branch → MultipliersValue → Key → Option Halt → Search → Type 0
-VertexLed d b before id solved asked y k None after = ClosedAtVertex d before id solved y k after ⊎ BranchedAtVertex d b before id solved asked y k after
-VertexLed d b before id solved asked y k (Some halt) after = StoppedAtGrid d before id solved asked y k halt after
+abbrev pub VertexLed : DeckValue → BoxValue → Search → OpenNode → Solved → Option Branch → MultipliersValue → Key → Option Halt → Search → Type 0
+VertexLed d b before taken solved asked y k None after = ClosedAtVertex d before taken.node solved y k after ⊎ BranchedAtVertex d b before taken solved asked y k after
+VertexLed d b before taken solved asked y k (Some halt) after = StoppedAtGrid d before taken.node solved asked y k halt after
 
 -- the search but for its best point
 abbrev pub with_best : Search → Option Incumbent → Search
 with_best s best = record s { incumbent = best }
 
--- a vertex was reached: it is the best point then where it is better, and its node is closed or branched, or the search stops. The key is that of its multipliers on the box, and the branch is what it asks for, which fits the box
-pub record AfterVertex (d : DeckValue) (b : BoxValue) (before : Search) (id : ℕ) (solved : Solved) (p : PointValue) (y : MultipliersValue) (halt : Option Halt) (after : Search) : Type 0 where
+-- a vertex was reached: it is the best point then where it is better, and its node is closed or branched, or the search stops. The key is that of its multipliers on the box, with the id and the depth that the node had, and the branch is what it asks for, which fits the box
+pub record AfterVertex (d : DeckValue) (b : BoxValue) (before : Search) (taken : OpenNode) (solved : Solved) (p : PointValue) (y : MultipliersValue) (halt : Option Halt) (after : Search) : Type 0 where
   pub best : Option Incumbent
   pub best_is : IsBestOf d p before.incumbent best
   pub asked : Option Branch
@@ -147,7 +146,9 @@ pub record AfterVertex (d : DeckValue) (b : BoxValue) (before : Search) (id : �
   pub key : Key
   pub key_is : KeyIs (leaf_value d b y) y.y0 key
   pub key_size : unsigned_abs key.value < 2 ^ 126
-  pub led : VertexLed d b (with_best before best) id solved asked y key halt after
+  pub key_id : key.id ≡ taken.key.id
+  pub key_depth : key.depth ≡ taken.key.depth
+  pub led : VertexLed d b (with_best before best) taken solved asked y key halt after
 
 -- ---- a node that ended
 
@@ -169,17 +170,19 @@ EndSays d b (end.Vertex point y) = IsVertex d b (plain_point point) (plain_multi
 EndSays d b (end.Empty y) = AreBelow (2 ^ 40) (plain_multipliers y) × EmptySays d b (plain_multipliers y)
 EndSays d b (end.Stopped cause own) = IfSome own (λ y. OwnSays d (plain_multipliers y))
 
--- the node of this id under these multipliers, which are its own; the key is theirs
-pub record HasOwn (d : DeckValue) (b : BoxValue) (id : ℕ) (y : MultipliersValue) (w : OpenNode) : Type 0 where
-  pub node_is : w.node ≡ id
+-- the node that was taken under these multipliers, which are its own; the key is theirs, with the id and the depth that the node had
+pub record HasOwn (d : DeckValue) (b : BoxValue) (taken : OpenNode) (y : MultipliersValue) (w : OpenNode) : Type 0 where
+  pub node_is : w.node ≡ taken.node
   pub multipliers : plain_multipliers w.y ≡ y
   pub key_is : KeyIs (leaf_value d b y) y.y0 w.key
   pub key_size : unsigned_abs w.key.value < 2 ^ 126
+  pub key_id : w.key.id ≡ taken.key.id
+  pub key_depth : w.key.depth ≡ taken.key.depth
 
 -- the node in hand with its own multipliers where they were read, else as it was taken
 abbrev pub IsKept : DeckValue → BoxValue → OpenNode → Option MultipliersValue → OpenNode → Type 0
 IsKept d b taken None hand = hand ≡ taken
-IsKept d b taken (Some y) hand = HasOwn d b taken.node y hand
+IsKept d b taken (Some y) hand = HasOwn d b taken y hand
 
 -- the stop in the solving of the node in hand
 pub record HasStoppedAt (d : DeckValue) (b : BoxValue) (taken : OpenNode) (solved : Solved) (cause : Why) (own : Option MultipliersValue) (halt : Halt) : Type 0 where
@@ -194,6 +197,6 @@ StoppedWith d b before taken solved cause own (Some halt) after = HasStoppedAt d
 
 -- what became of the search where the node in hand ended so
 abbrev pub HasSettled : DeckValue → BoxValue → Search → OpenNode → Solved → NodeEnd → Option Halt → Search → Type 0
-HasSettled d b before taken solved (end.Vertex point y) halt after = AfterVertex d b before taken.node solved (plain_point point) (plain_multipliers y) halt after
+HasSettled d b before taken solved (end.Vertex point y) halt after = AfterVertex d b before taken solved (plain_point point) (plain_multipliers y) halt after
 HasSettled d b before taken solved (end.Empty y) halt after = IsNone halt × (after ≡ emptied_search before taken.node solved (plain_multipliers y))
 HasSettled d b before taken solved (end.Stopped cause own) halt after = StoppedWith d b before taken solved cause (option_map plain_multipliers own) halt after

@@ -65,7 +65,7 @@ impl Search {
         requires no_arcs { deck.now.arcs ≡ [] }
         requires usable { AreUsable (length deck.now.rows) (plain_multipliers y) }
         requires y0 { pos 0 <ℤ y.y0 }
-        ensures { OnOk result (HasBranched deck.now node.old.limits self.old id solved branch (plain_multipliers y) self.new) }
+        ensures { OnOk result (HasBranched deck.now node.old.limits self.old id depth solved branch (plain_multipliers y) self.new) }
     {
         let next = self.growth.len() as u32;
         let copy = copy_of(alloc, &y)?;

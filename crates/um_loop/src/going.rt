@@ -127,6 +127,7 @@ impl Search {
         requires full { ¬ IsVoid deck.now node.old.limits }
         requires place { IsOpenAt self.old.growth taken.node }
         requires room { length self.old.growth.nodes + 2 ≤ 200001 }
+        requires depth { taken.key.depth < 200001 }
         requires says { EndSays deck.now node.old.limits end }
         ensures { IfOk result (λ halt. HasSettled deck.now node.old.limits self.old taken solved end halt self.new) }
     {
@@ -188,7 +189,7 @@ fn with_own(deck: &Deck, node: &NodeBox<'_>, taken: OpenNode, y: Multipliers) ->
     requires full { ¬ IsVoid deck.now node.now.limits }
     requires no_arcs { deck.now.arcs ≡ [] }
     requires own { OwnSays deck.now (plain_multipliers y) }
-    ensures { HasOwn deck.now node.now.limits taken.node (plain_multipliers y) result }
+    ensures { HasOwn deck.now node.now.limits taken (plain_multipliers y) result }
 {
     let Key { id, depth, .. } = taken.key;
     OpenNode {

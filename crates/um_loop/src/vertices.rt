@@ -66,11 +66,12 @@ impl Search {
         requires formed { IsDeckNow deck.now }
         requires place { IsOpenAt self.old.growth taken.now.node }
         requires room { length self.old.growth.nodes + 2 ≤ 200001 }
+        requires depth { taken.now.key.depth < 200001 }
         requires same_deck { node.old.deck ≡ deck.now }
         requires full { ¬ IsVoid deck.now node.old.limits }
         requires no_arcs { deck.now.arcs ≡ [] }
         requires vertex { IsVertex deck.now node.old.limits (plain_point point) (plain_multipliers y) }
-        ensures { IfOk result (λ halt. AfterVertex deck.now node.old.limits self.old taken.now.node solved (plain_point point) (plain_multipliers y) halt self.new) }
+        ensures { IfOk result (λ halt. AfterVertex deck.now node.old.limits self.old taken.now solved (plain_point point) (plain_multipliers y) halt self.new) }
     {
         let key = key_of(deck, node, taken.key.id, taken.key.depth, &y);
         let asked = branch_of(deck, node, &point);
@@ -92,6 +93,7 @@ impl Search {
     ) -> Result<Option<Halt>, Memory>
         requires place { IsOpenAt self.old.growth taken.now.node }
         requires room { length self.old.growth.nodes + 2 ≤ 200001 }
+        requires depth { taken.now.key.depth < 200001 }
         requires same_deck { node.old.deck ≡ deck.now }
         requires no_arcs { deck.now.arcs ≡ [] }
         requires fits { IfSome asked (Fits deck.now node.old.limits) }
@@ -100,7 +102,7 @@ impl Search {
         requires key_value { unsigned_abs key.value < 2 ^ 126 }
         requires usable { AreUsable (length deck.now.rows) (plain_multipliers y) }
         requires y0 { pos 0 <ℤ y.y0 }
-        ensures { IfOk result (λ halt. VertexLed deck.now node.old.limits self.old taken.now.node solved asked (plain_multipliers y) key halt self.new) }
+        ensures { IfOk result (λ halt. VertexLed deck.now node.old.limits self.old taken.now solved asked (plain_multipliers y) key halt self.new) }
     {
         let id = taken.node;
         if let Some(bound) = closing(deck, &self.incumbent, &key) {
@@ -110,7 +112,7 @@ impl Search {
         let Some(branch) = asked else {
             return Ok(Some(at_grid(id, solved, key, y)));
         };
-        let depth = taken.key.depth.saturating_add(1);
+        let depth = taken.key.depth + 1;
         self.branch(alloc, deck, node, id, depth, solved, branch, y)?;
         Ok(None)
     }

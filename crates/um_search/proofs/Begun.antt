@@ -1,5 +1,5 @@
 -- A search begins: its root waits with the multipliers 1 and none.
-use Rattle.std.proofs.Common.{◌≡◌, ℕ, zero, suc, ◌<◌, ◌^◌, ◌<ℤ◌, pos, List, [], ◌∷◌, length, Some, None, refl, sym, ap, subst, arith}
+use Rattle.std.proofs.Common.{◌≡◌, ℕ, zero, suc, ◌<◌, ◌^◌, ◌<ℤ◌, pos, List, [], ◌∷◌, length, Some, None, refl, sym, ap, ◌∙◌, subst, arith}
 use Rattle.std.specs.Prelude.{unsigned_abs}
 use Rattle.std.proofs.lemmas.Int.{ints}
 use Rattle.um_multipliers.specs.PlainMultipliers.{MultipliersValue, plain_multipliers}
@@ -14,6 +14,7 @@ use Rattle.um_model.specs.AnswerValues.{Split}
 use Rattle.um_model.specs.declared.branch.Branch.{Branch}
 use Rattle.um_tree.specs.Growths.{GrowthValue, what_at, origin_at}
 use Rattle.um_tree.specs.declared.growing.Origin.{Origin}
+use Rattle.um_cover.specs.Sites.{way}
 use Rattle.um_cover.specs.Nodes.{OpenIs}
 use Rattle.um_nodes.specs.Keys.{IsKey}
 use Rattle.um_nodes.specs.declared.open_nodes.OpenNode.{OpenNode}
@@ -69,7 +70,7 @@ root_lineage y = record {
   above = λ id o p n h e parent own. absurd (root_first y id o h e);
 }
 
-module _ (d : DeckValue) (w : OpenNode) (full : ¬ IsVoid d (root d)) (own : plain_multipliers w.y ≡ one) (first : w.node ≡ 0) (key : KeyIs (leaf_value d (root d) (plain_multipliers w.y)) w.y.y0 w.key) (small : unsigned_abs w.key.value < 2 ^ 126) where
+module _ (d : DeckValue) (w : OpenNode) (full : ¬ IsVoid d (root d)) (own : plain_multipliers w.y ≡ one) (first : w.node ≡ 0) (key : KeyIs (leaf_value d (root d) (plain_multipliers w.y)) w.y.y0 w.key) (small : unsigned_abs w.key.value < 2 ^ 126) (key_id : w.key.id ≡ 0) (key_depth : w.key.depth ≡ 0) where
   entry : IsEntryOf d (root d) 0 w
   entry = record { node = first; bounds = one_bounds d (root d) (plain_multipliers w.y) full own; key = key; size = small }
 
@@ -88,6 +89,7 @@ module _ (d : DeckValue) (w : OpenNode) (full : ¬ IsVoid d (root d)) (own : pla
       told = history_begins d start most y starts board;
       finished = tt;
       handed = root_handed y w first own;
+      keys = (record { id_is = key_id ∙ sym first; depth_is = key_depth ∙ ap (λ (id : ℕ). length (way (rooted y) id)) (sym first) }, tt);
       unnumbered = root_unnumbered y;
       lineage = root_lineage y;
       needed = λ place n e. absurd (cc);

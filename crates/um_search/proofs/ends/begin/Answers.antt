@@ -24,7 +24,7 @@ put-requires c =
     let d = c.args.deck.now in
     let at : c.args.root.now.limits ≡ root d = search rules in
     let w : OpenNode = record { key = c.key_of-key.result; node = 0; y = c.one_and_none-y.result } in
-    root_key d w c.requires.full c.one_and_none-y.ensures refl (subst (λ (b : BoxValue). KeyIs (leaf_value d b (plain_multipliers w.y)) w.y.y0 w.key) at c.key_of-key.ensures.key) c.key_of-key.ensures.size
+    root_key d w c.requires.full c.one_and_none-y.ensures refl (subst (λ (b : BoxValue). KeyIs (leaf_value d b (plain_multipliers w.y)) w.y.y0 w.key) at c.key_of-key.ensures.key) c.key_of-key.ensures.size c.key_of-key.ensures.id c.key_of-key.ensures.depth
 
 pub returns-clause-going : goal.returns-clause-going
 returns-clause-going c = λ start most starts board.
@@ -32,7 +32,7 @@ returns-clause-going c = λ start most starts board.
     let at : c.args.root.now.limits ≡ root d = search rules in
     let w : OpenNode = record { key = c.key_of-key.result; node = 0; y = c.one_and_none-y.result } in
     let waits : c.put.new.self ≡ w ∷ [] = search rules in
-    began d w c.requires.full c.one_and_none-y.ensures refl (subst (λ (b : BoxValue). KeyIs (leaf_value d b (plain_multipliers w.y)) w.y.y0 w.key) at c.key_of-key.ensures.key) c.key_of-key.ensures.size (plain_multipliers c.one_and_none.result) c.one_and_none.ensures start most starts board c.in_ok-growth.growth c.put.new.self c.in_ok-growth.ensures waits
+    began d w c.requires.full c.one_and_none-y.ensures refl (subst (λ (b : BoxValue). KeyIs (leaf_value d b (plain_multipliers w.y)) w.y.y0 w.key) at c.key_of-key.ensures.key) c.key_of-key.ensures.size c.key_of-key.ensures.id c.key_of-key.ensures.depth (plain_multipliers c.one_and_none.result) c.one_and_none.ensures start most starts board c.in_ok-growth.growth c.put.new.self c.in_ok-growth.ensures waits
 
 pub returns-clause-checkable : goal.returns-clause-checkable
 returns-clause-checkable c = began_checkable c.args.deck.now (plain_multipliers c.one_and_none.result) c.in_ok-growth.growth c.one_and_none.ensures c.in_ok-growth.ensures

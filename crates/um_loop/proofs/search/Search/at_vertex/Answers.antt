@@ -14,14 +14,14 @@ returns c =
     let d = c.args.deck.now in
     let box = c.args.node.now.limits in
     let s = c.args.self.now in
-    let id = c.args.taken.now.node in
+    let taken = c.args.taken.now in
     let p = plain_point c.args.point in
     let y = plain_multipliers c.args.y in
     let best = c.improve.new.best in
     let asked = c.branch_of-asked.result in
     let key = c.key_of-key.result in
     let is = c.branch_of-asked.ensures.branch in
-    ok_map (λ (halt : Option Halt). VertexLed d box (with_best s best) id c.args.solved asked y key halt c.settle_vertex.new.self) (λ (halt : Option Halt). AfterVertex d box s id c.args.solved p y halt c.settle_vertex.new.self) c.settle_vertex.result
+    ok_map (λ (halt : Option Halt). VertexLed d box (with_best s best) taken c.args.solved asked y key halt c.settle_vertex.new.self) (λ (halt : Option Halt). AfterVertex d box s taken c.args.solved p y halt c.settle_vertex.new.self) c.settle_vertex.result
     (λ halt led. record {
       best = best;
       best_is = c.improve.ensures;
@@ -32,6 +32,8 @@ returns c =
       key = key;
       key_is = c.key_of-key.ensures.key;
       key_size = c.key_of-key.ensures.size;
+      key_id = c.key_of-key.ensures.id;
+      key_depth = c.key_of-key.ensures.depth;
       led = led;
     })
     c.settle_vertex.ensures

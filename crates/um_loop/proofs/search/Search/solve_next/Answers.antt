@@ -10,7 +10,7 @@ use Rattle.um_loop.specs.Checkables.{AreCheckable}
 use Rattle.um_loop.specs.Goings.{GoesOn}
 use Rattle.um_loop.specs.Steps.{EndSays, HasSettled}
 use Rattle.um_loop.proofs.EndedNodes.{hand_ends, end_says}
-use Rattle.um_loop.proofs.Takings.{open_at}
+use Rattle.um_loop.proofs.Takings.{open_at, depth_below}
 use Rattle.um_loop.proofs.Goes.{solved_goes}
 use Rattle.um_loop.proofs.GridStops.{stops_off_grid}
 use Rattle.um_loop.proofs.Keepings.{Keeps, all_keep}
@@ -40,6 +40,9 @@ pub solve_node-requires-clause-wanted : goal.solve_node-requires-clause-wanted
 solve_node-requires-clause-wanted g c =
     let wants = c.requires.1.1.1.1.1.0.wants (box_at c.args.deck.now c.args.self.now.growth c.args.taken.node) (ends_here g (goal.at.solve_node-requires-clause-wanted g c).Start) in
     subst (λ (n : NodeBoxValue). WantsFiniteEnds n.deck n.limits (g.B.Board.state c.args.board.now)) (sym c.in_ok-node.ensures) wants
+
+pub settle-requires-clause-depth : goal.settle-requires-clause-depth
+settle-requires-clause-depth g c = depth_below c.args.deck.now g.began.start g.began.most c.args.taken c.args.self.now (g.B.Board.state c.args.board.now) c.args.left.now c.requires.1.1.1.1.1.1.0 c.requires.1.1.1.1.1.1.1.0
 
 pub settle-requires-clause-place : goal.settle-requires-clause-place
 settle-requires-clause-place g c = open_at c.args.self.now.growth c.args.taken.node c.requires.1.1.1.1.1.1.0.waits.fresh
