@@ -11,6 +11,8 @@ pub mod Orders
 pub mod Pivots
 pub mod ReducedCosts
 pub mod RefusedReads
+pub mod ResetStates
+pub mod Resets
 pub mod Rows
 pub mod ShortLines
 pub mod Solutions

@@ -4,7 +4,7 @@ use Rattle.std.specs.Prelude.{ℤ, pos, nat_lt}
 use Rattle.um_laws.proofs.Ring.{var, nought, unit, ◌⊕◌, ◌⊗◌, opp}
 use Rattle.um_laws.specs.Rational.{Rational, whole, add, mul, neg}
 use Rattle.um_lp.specs.Basis.{sum_below, TableauOf, Solves}
-use Rattle.um_lp.specs.Boards.{IsShaped, IsBoard, IsStart}
+use Rattle.um_lp.specs.Boards.{IsShaped, IsBoard, IsStart, IsReset}
 use Rattle.um_lp.specs.States.{State, Frame, ColumnData, no_data, data_of, coefficient, charge, width, slack, system, cost_of, basic_of, at_of, ends_of, entry_of, reduced_of, value_of, end_at, number_of_end}
 use Rattle.um_lp.specs.declared.board.At.{At}
 use Rattle.um_lp.specs.declared.board.At.TheVariants.{Lower, Basic}
@@ -135,4 +135,16 @@ IsStart-start f s hf hp hc h = record {
   basic = λ row l. subst (λ (x : Frame). row < x.rows → basic_of s row ≡ slack x row) hf (h.basic row) l;
   nonbasic = λ column l. lower_start s h column (subst (λ (x : Frame). column < width x) (sym hf) l);
   ends = λ column l. h.ends column (subst (λ (x : Frame). column < width x) (sym hf) l);
+}
+
+pub IsReset-start : (taken : Costs) (s t : State) → t.frame ≡ s.frame → t.placed ≡ [] → t.costs ≡ taken → HasSlackBasis t → IsReset taken s t
+IsReset-start taken s t hf hp hc h = record {
+  frame = hf;
+  placed = hp;
+  costs = hc;
+  basic = subst (λ (f : Frame). (row : ℕ) → row < f.rows → basic_of t row ≡ slack f row) hf h.basic;
+  nonbasic = subst (λ (f : Frame). (column : ℕ) → column < width f → at_of t column ≢ Basic → at_of t column ≡ Lower) hf (lower_start t h);
+  ends = subst (λ (f : Frame). (column : ℕ) → column < width f → ends_of t column ≡ (Some (pos 0), Some (pos 0))) hf h.ends;
+  values = subst (λ (f : Frame). (column : ℕ) → column < width f → value_of t column ≡ whole (pos 0)) hf h.values;
+  board = IsBoard-start t h;
 }

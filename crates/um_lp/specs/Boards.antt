@@ -1,11 +1,12 @@
 -- What holds of the state of every board, and what each act leaves.
 use Rattle.std.specs.Prelude.{◌≡◌, ◌≢◌, ℕ, ◌<◌, ℤ, pos, ◌≤ℤ◌, ◌<ℤ◌, List, [], length, slice_set, All, Option, Some, None, IsSome}
 use Rattle.std.specs.Option.{ForSome}
-use Rattle.um_laws.specs.Rational.{Rational, add, mul}
+use Rattle.um_laws.specs.Rational.{Rational, add, mul, whole}
 use Rattle.um_lp.specs.Basis.{sum_below, Solves, TableauOf}
 use Rattle.um_lp.specs.States.{State, Frame, width, slack, system, cost_of, basic_of, at_of, ends_of, entry_of, reduced_of, value_of, end_at, number_of_end}
 use Rattle.um_lp.specs.declared.board.At.{At}
 use Rattle.um_lp.specs.declared.board.At.TheVariants.{Lower, Upper, Zero, Basic}
+use Rattle.um_lp.specs.declared.board.Costs.{Costs}
 use Rattle.um_lp.specs.declared.board.Costs.TheVariants.{Given}
 
 -- ---- every state
@@ -113,4 +114,15 @@ pub record IsRebox (column : ℕ) (given : Option ℤ × Option ℤ) (s t : Stat
   pub ends : t.ends ≡ slice_set s.ends column given
   pub at : t.at ≡ slice_set s.at column (at_of t column)
   pub stands : StandsAt (at_of s column) (at_of t column) (reduced_of s column) given
+  pub board : IsBoard t
+
+-- the board is made anew over its frame: every slack is basic, every other column is Lower, all ends and values are 0, no grid point is there, and these costs are taken; the entries and reduced costs follow
+pub record IsReset (taken : Costs) (s t : State) : Type 0 where
+  pub frame : t.frame ≡ s.frame
+  pub placed : t.placed ≡ []
+  pub costs : t.costs ≡ taken
+  pub basic : (row : ℕ) → row < s.frame.rows → basic_of t row ≡ slack s.frame row
+  pub nonbasic : (column : ℕ) → column < width s.frame → at_of t column ≢ Basic → at_of t column ≡ Lower
+  pub ends : (column : ℕ) → column < width s.frame → ends_of t column ≡ (Some (pos 0), Some (pos 0))
+  pub values : (column : ℕ) → column < width s.frame → value_of t column ≡ whole (pos 0)
   pub board : IsBoard t

@@ -1,11 +1,13 @@
--- The laws of bases and pivots.
+-- The laws of bases, pivots and resets.
 use Rattle.std.specs.Prelude.{◌≡◌, ◌≢◌, ℕ, ◌<◌, pos, ◌↔◌}
 use Rattle.um_laws.specs.Rational.{Rational, whole}
 use Rattle.um_lp.specs.Basis.{TableauOf, Solves, pivot_entry, pivot_basic}
-use Rattle.um_lp.specs.Boards.{IsBoard, IsPivot, AreOrdered}
+use Rattle.um_lp.specs.Boards.{IsBoard, IsPivot, IsReset, IsStart, AreOrdered}
 use Rattle.um_lp.specs.DualSteps.{Next, IsNext}
-use Rattle.um_lp.specs.States.{State, width, ends_of}
+use Rattle.um_lp.specs.States.{State, width, system, cost_of, ends_of, entry_of, reduced_of}
 use Rattle.um_lp.specs.declared.board.At.{At}
+use Rattle.um_lp.specs.declared.board.Costs.{Costs}
+use Rattle.um_lp.specs.declared.board.Costs.TheVariants.{Given, Nothing}
 
 -- A pivot leads from the tableau of a basis to that of the next.
 abbrev pub PivotLaw : Type 0
@@ -34,3 +36,23 @@ OnePivotLaw = (s t u : State) (row column : ℕ) (to : At) → IsPivot row colum
 -- What comes next in a state is one thing, where the low end of each column is at most its high end.
 abbrev pub OneNextLaw : Type 0
 OneNextLaw = (s : State) (a b : Next) → IsBoard s → ((column : ℕ) → column < width s.frame → AreOrdered (ends_of s column)) → IsNext s a → IsNext s b → a ≡ b
+
+-- A reset with the given costs leads to the start, which is a board.
+abbrev pub ResetStartLaw : Type 0
+ResetStartLaw = (s t : State) → IsReset Given s t → IsStart s.frame t × IsBoard t
+
+-- After a reset the entries are the rows of the system.
+abbrev pub ResetRowsLaw : Type 0
+ResetRowsLaw = (taken : Costs) (s t : State) → IsReset taken s t → (row column : ℕ) → row < s.frame.rows → column < width s.frame → entry_of t row column ≡ system t row column
+
+-- And the reduced costs are the costs.
+abbrev pub ResetCostsLaw : Type 0
+ResetCostsLaw = (taken : Costs) (s t : State) → IsReset taken s t → (column : ℕ) → column < width s.frame → reduced_of t column ≡ cost_of t column
+
+-- On a board that takes no costs all reduced costs are 0, whatever its basis.
+abbrev pub NoCostsLaw : Type 0
+NoCostsLaw = (s : State) → IsBoard s → s.costs ≡ Nothing → (column : ℕ) → column < width s.frame → reduced_of s column ≡ whole (pos 0)
+
+-- A reset of a state leads to one state.
+abbrev pub OneResetLaw : Type 0
+OneResetLaw = (taken : Costs) (s t u : State) → IsReset taken s t → IsReset taken s u → t ≡ u

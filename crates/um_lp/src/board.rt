@@ -6,7 +6,7 @@ ghost use Rattle.um_num.specs.Numbers.{IsInRange};
 ghost use Rattle.um_num.specs.Sizes.{Fits};
 ghost use Rattle.std.specs.Option.{ForSome};
 ghost use Rattle.std.specs.Ordering.{int_cmp};
-ghost use Rattle.um_lp.specs.Boards.{IsBoard, IsPivot, IsRebox, IsFinite, AreOrdered, IsWantedEndFinite};
+ghost use Rattle.um_lp.specs.Boards.{IsBoard, IsPivot, IsRebox, IsReset, IsFinite, AreOrdered, IsWantedEndFinite};
 ghost use Rattle.um_lp.specs.Refusals.{IsRefusedAt, IsRefusedAct};
 ghost use Rattle.um_lp.specs.States.{State, width, at_of, basic_of, ends_of, entry_of, reduced_of, value_of};
 
@@ -54,6 +54,10 @@ pub trait Board {
     /// How many columns there are, slacks and places included.
     fn columns(&self) -> u32
         ensures { result ≡ width (state self.now).frame };
+
+    /// Which costs the board took at its making, or at its last reset.
+    fn costs(&self) -> Costs
+        ensures { result ≡ (state self.now).costs };
 
     fn at(&self, column: u32) -> At
         requires { column < width (state self.now).frame }
@@ -123,6 +127,14 @@ pub trait Board {
         ensures ok { OnOk result (IsRebox column (low, high) (state self.old) (state self.new)) }
         ensures err { OnErr result (state self.new ≡ state self.old) }
         ensures wide { IfErr result (IsRefusedAct (state self.old) (IsRebox column (low, high) (state self.old))) }
+        ensures keeps { Keeps self.old self.new };
+
+    /// The board is made anew over the rows and costs of its making: every slack is basic, every other
+    /// column at its low end, all ends are 0, and the places for grid points are empty.
+    fn reset(&mut self, costs: Costs) -> Result<(), Wide>
+        ensures ok { OnOk result (IsReset costs (state self.old) (state self.new)) }
+        ensures err { OnErr result (state self.new ≡ state self.old) }
+        ensures wide { IfErr result (IsRefusedAct (state self.old) (IsReset costs (state self.old))) }
         ensures keeps { Keeps self.old self.new };
 
     /// What holds of every board.

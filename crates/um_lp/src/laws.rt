@@ -1,6 +1,6 @@
 //! Functions that do nothing: each has a law as its contract, so that the law is sure to be proved.
 
-ghost use Rattle.um_lp.specs.Laws.{PivotLaw, OneTableauLaw, SameSolutionsLaw, TableauSolutionsLaw, OnePivotLaw, OneNextLaw};
+ghost use Rattle.um_lp.specs.Laws.{PivotLaw, OneTableauLaw, SameSolutionsLaw, TableauSolutionsLaw, OnePivotLaw, OneNextLaw, ResetStartLaw, ResetRowsLaw, ResetCostsLaw, NoCostsLaw, OneResetLaw};
 
 /// A pivot leads from the tableau of a basis to that of the next.
 pub fn pivot_law()
@@ -30,4 +30,29 @@ pub fn one_pivot_law()
 /// What comes next in a state is one thing.
 pub fn one_next_law()
     ensures { OneNextLaw }
+{}
+
+/// A reset with the given costs leads to the start, which is a board.
+pub fn reset_start_law()
+    ensures { ResetStartLaw }
+{}
+
+/// After a reset the entries are the rows of the system.
+pub fn reset_rows_law()
+    ensures { ResetRowsLaw }
+{}
+
+/// After a reset the reduced costs are the costs.
+pub fn reset_costs_law()
+    ensures { ResetCostsLaw }
+{}
+
+/// On a board that takes no costs all reduced costs are 0.
+pub fn no_costs_law()
+    ensures { NoCostsLaw }
+{}
+
+/// A reset of a state leads to one state.
+pub fn one_reset_law()
+    ensures { OneResetLaw }
 {}

@@ -23,6 +23,7 @@ use Rattle.um_tableau.specs.Sheets.{state_of, IsSheet, IsSpare, IsPivoted, IsReb
 use Rattle.um_tableau.specs.Stands.{Stands, board_of, stands_of}
 use Rattle.um_tableau.specs.declared.sheet.Sheet.{Sheet}
 use Rattle.um_tableau.specs.declared.sheet.Spare.{Spare}
+use Rattle.um_tableau.proofs.Copies.{room_of}
 
 -- ---- the sheet of a board
 -- minus one is not 0
@@ -65,7 +66,7 @@ pub pivot_is : (f : Frame) (s t : Sheet) (row column : ℕ) (to : At) → Stands
 pivot_is f s t row column to h lr lk free ne finite p =
     IsBoard-pivot row column to (state_of f s) (state_of f t) (board_of (state_of f s) h) lr lk free ne finite
     (record {
-      same = record { frame = refl; placed = refl; costs = refl };
+      same = record { frame = refl; placed = refl; costs = p.costs };
       shape = record {
         basic = ap length p.basic ∙ length-set s.basic.items row column ∙ h.basic;
         at = ap length p.at ∙ length-set (slice_set s.at.items (basic_at s row) to) column Basic ∙ length-set s.at.items (basic_at s row) to ∙ h.at;
@@ -93,7 +94,7 @@ pub rebox_is : (f : Frame) (s t : Sheet) (column : ℕ) (given : Option ℤ × O
 rebox_is f s t column given h lk p =
     IsBoard-rebox column given (state_of f s) (state_of f t) (board_of (state_of f s) h) lk
     (record {
-      same = record { frame = refl; placed = refl; costs = refl };
+      same = record { frame = refl; placed = refl; costs = p.costs };
       long = p.values_long ∙ h.values;
       basic = p.basic;
       entries = p.entries;
@@ -162,8 +163,4 @@ keeps_rebox f s t spare column given e r l low high p q =
 -- ---- the making
 -- room for a board of the slack basis
 pub first_room : (f : Frame) (s : Sheet) (spare : Spare) → HasSlackBasis (state_of f s) → AreSpare f.rows (width f) spare.lines → length spare.moved.items ≡ f.rows → IsSpare s spare
-first_room f s spare h lines moved =
-    record {
-      lines = subst (λ (n : ℕ). AreSpare n (length s.reduced) spare.lines) (sym h.shape.entries) (subst (λ (n : ℕ). AreSpare f.rows n spare.lines) (sym h.shape.reduced) lines);
-      moved = moved ∙ sym h.shape.entries;
-    }
+first_room f s spare h lines moved = room_of f s spare h.shape.entries h.shape.reduced lines moved

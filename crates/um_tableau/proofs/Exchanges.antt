@@ -14,12 +14,12 @@ use Rattle.um_tableau.specs.declared.sheet.Spare.{Spare}
 pub pivoted_is : (s t : Sheet) (row column : ℕ) (to : At) (end entered : Rational) (spare : Spare) (entries : List (List Rational)) (values : List Rational) → IsSheet s → IsPrepared s row column end entered spare
     → t.entries.items ≡ entries → t.values.items ≡ values → length entries ≡ length s.entries.items → length t.reduced ≡ length s.reduced → length values ≡ length s.values.items
     → AreLong (length s.reduced) entries
-    → t.basic.items ≡ slice_set s.basic.items row column → t.at.items ≡ slice_set (slice_set s.at.items (basic_at s row) to) column Basic → t.ends.items ≡ s.ends.items
+    → t.basic.items ≡ slice_set s.basic.items row column → t.at.items ≡ slice_set (slice_set s.at.items (basic_at s row) to) column Basic → t.ends.items ≡ s.ends.items → t.costs ≡ s.costs
     → ((i j : ℕ) → i < length s.entries.items → j < length s.reduced → entry_at entries i j ≡ pivot_entry (entry_at s.entries.items) row column i j)
     → ((j : ℕ) → j < length s.reduced → number_at t.reduced j ≡ add (number_at s.reduced j) (mul (number_at s.reduced column) (pivot_line (entry_at s.entries.items) row column j)))
     → AreValuesAfter s.basic.items row column end entered spare.moved.items s.values.items values
     → IsPivoted s t row column to end
-pivoted_is s t row column to end entered spare entries values sheet prepared et vt height width vlong long basic at ends entries_are reduced values_are =
+pivoted_is s t row column to end entered spare entries values sheet prepared et vt height width vlong long basic at ends costs entries_are reduced values_are =
     let fits : length s.basic.items ≡ length s.entries.items = sheet.basic in
     record {
       height = ap length et ∙ height;
@@ -28,6 +28,7 @@ pivoted_is s t row column to end entered spare entries values sheet prepared et 
       basic = basic;
       at = at;
       ends = ends;
+      costs = costs;
       entries = λ i j li lj. ap (λ (rows : List (List Rational)). entry_at rows i j) et ∙ entries_are i j li lj;
       reduced = reduced;
       values_long = ap length vt ∙ vlong;

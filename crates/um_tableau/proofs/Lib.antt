@@ -12,3 +12,5 @@ mod Rises
 pub mod RefusedActs
 pub mod FirstBasis
 mod NarrowLines
+pub mod Copies
+pub mod BoardResets

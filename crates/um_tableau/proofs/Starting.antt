@@ -1,6 +1,6 @@
 -- The first numbers of a board.
-use Rattle.std.proofs.Common.{◌≡◌, ℕ, ◌<◌, ℤ, pos, negsuc, ◌+ℤ◌, ◌*ℤ◌, List, [], ◌∷◌, length, map, slice_set, cond, arith, ◌∙◌, ap, refl}
-use Rattle.std.proofs.lemmas.List.{get_or-map, get_or-set_same, get_or-set_other}
+use Rattle.std.proofs.Common.{◌≡◌, ℕ, ◌<◌, ℤ, pos, negsuc, ◌+ℤ◌, ◌*ℤ◌, List, [], ◌∷◌, length, map, replicate, slice_set, cond, arith, ◌∙◌, ap, refl}
+use Rattle.std.proofs.lemmas.List.{get_or-map, get_or-replicate, get_or-set_same, get_or-set_other, length-map, length-replicate}
 use Rattle.um_laws.specs.Rational.{Rational, whole, add, neg}
 use Rattle.um_laws.proofs.RationalField.{is_whole, is_add, zero_value}
 use Rattle.um_laws.proofs.Ring.{var, nought, ◌⊕◌, opp}
@@ -9,7 +9,8 @@ use Rattle.um_lp.specs.States.{Frame, width, slack, data_of, coefficient, system
 use Rattle.um_laws.proofs.RationalEquations.{by_ring}
 use Rattle.um_lp.proofs.Rows.{by_row}
 use Rattle.um_lines.specs.Lines.{whole_at}
-use Rattle.um_tableau.specs.Starts.{bare}
+use Rattle.um_lp.specs.declared.board.Costs.TheVariants.{Nothing}
+use Rattle.um_tableau.specs.Starts.{bare, AreCosts}
 
 -- minus one, as a whole number and as a negative
 pub minus_one_is : whole (negsuc 0) ≡ neg (whole (pos 1))
@@ -31,3 +32,12 @@ system_at f row nums fits coefficients j l =
     by_row (λ b. whole (whole_at (slice_set nums at (negsuc 0)) j) ≡ cond b (neg (whole (pos 1))) (whole (coefficient (data_of (bare f) j).terms row))) j at
     (λ same. ap (λ (n : ℕ). whole (whole_at (slice_set nums at (negsuc 0)) n)) same ∙ ap whole (get_or-set_same nums at (negsuc 0) (pos 0) fits) ∙ minus_one_is)
     (λ other. ap whole (get_or-set_other nums at j (negsuc 0) (pos 0) other ∙ coefficients j l))
+
+-- a line of zeros charges nothing
+pub zero_costs : (f : Frame) (nums : List ℤ) (line : List Rational) → nums ≡ replicate (width f) (pos 0) → line ≡ map whole nums → AreCosts Nothing f line
+zero_costs f nums line hn hl =
+    let long : length nums ≡ width f = ap length hn ∙ length-replicate (width f) (pos 0) in
+    record {
+      long = ap length hl ∙ length-map nums whole ∙ long;
+      numbers = λ j l. ap (λ (xs : List Rational). number_at xs j) hl ∙ number_of_wholes nums j (omega arith) ∙ ap (λ (xs : List ℤ). whole (whole_at xs j)) hn ∙ ap whole (get_or-replicate (width f) j (pos 0) (pos 0) l);
+    }

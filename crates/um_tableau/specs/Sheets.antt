@@ -9,17 +9,16 @@ use Rattle.um_num.specs.NumberLists.{number_at}
 use Rattle.um_lp.specs.States.{State, Frame, end_at, number_of_end}
 use Rattle.um_lp.specs.declared.board.At.{At}
 use Rattle.um_lp.specs.declared.board.At.TheVariants.{Zero, Basic}
-use Rattle.um_lp.specs.declared.board.Costs.TheVariants.{Given}
 use Rattle.um_tableau.specs.Rows.{entry_at, AreLong, AreBelow, AreDistinct, AreNextLines, AreSpare}
 use Rattle.um_tableau.specs.declared.sheet.Sheet.{Sheet}
 use Rattle.um_tableau.specs.declared.sheet.Spare.{Spare}
 
--- a sheet over a frame, with no grid points and the given costs
+-- a sheet over a frame, with no grid points
 abbrev pub state_of : Frame → Sheet → State
 state_of frame s = record {
   frame = frame;
   placed = [];
-  costs = Given;
+  costs = s.costs;
   basic = s.basic.items;
   at = s.at.items;
   ends = s.ends.items;
@@ -91,6 +90,7 @@ pub record IsPivoted (s t : Sheet) (row column : ℕ) (to : At) (end : Rational)
   pub basic : t.basic.items ≡ slice_set s.basic.items row column
   pub at : t.at.items ≡ slice_set (slice_set s.at.items (basic_at s row) to) column Basic
   pub ends : t.ends.items ≡ s.ends.items
+  pub costs : t.costs ≡ s.costs
   pub entries : (i j : ℕ) → i < length s.entries.items → j < length s.reduced → entry_at t.entries.items i j ≡ pivot_entry (entry_at s.entries.items) row column i j
   pub reduced : (j : ℕ) → j < length s.reduced → number_at t.reduced j ≡ add (number_at s.reduced j) (mul (number_at s.reduced column) (pivot_line (entry_at s.entries.items) row column j))
   pub values_long : length t.values.items ≡ length s.values.items
@@ -117,6 +117,7 @@ pub record KeepsAllButValues (s t : Sheet) : Type 0 where
   pub at : t.at.items ≡ s.at.items
   pub ends : t.ends.items ≡ s.ends.items
   pub entries : t.entries.items ≡ s.entries.items
+  pub costs : t.costs ≡ s.costs
   pub reduced : t.reduced ≡ s.reduced
   pub long : length t.values.items ≡ length s.values.items
 
@@ -124,6 +125,7 @@ pub record KeepsAllButValues (s t : Sheet) : Type 0 where
 pub record KeepsAllButEnds (s t : Sheet) : Type 0 where
   pub basic : t.basic.items ≡ s.basic.items
   pub entries : t.entries.items ≡ s.entries.items
+  pub costs : t.costs ≡ s.costs
   pub reduced : t.reduced ≡ s.reduced
   pub values : t.values.items ≡ s.values.items
 
@@ -131,6 +133,7 @@ pub record KeepsAllButEnds (s t : Sheet) : Type 0 where
 pub record IsReboxed (s t : Sheet) (column : ℕ) (given : Option ℤ × Option ℤ) : Type 0 where
   pub basic : t.basic.items ≡ s.basic.items
   pub entries : t.entries.items ≡ s.entries.items
+  pub costs : t.costs ≡ s.costs
   pub reduced : t.reduced ≡ s.reduced
   pub values_long : length t.values.items ≡ length s.values.items
   pub ends : t.ends.items ≡ slice_set s.ends.items column given

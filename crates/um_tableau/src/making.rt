@@ -5,19 +5,24 @@ ghost use Rattle.um_lp.specs.States.{width};
 ghost use Rattle.um_tableau.specs.Rows.{AreLong, AreSpare};
 ghost use Rattle.um_tableau.specs.Sheets.{state_of, AreEndsInRange};
 ghost use Rattle.um_lp.proofs.Starts.{HasSlackBasis};
+ghost use Rattle.um_tableau.specs.Starts.{AreFirstLines};
 
 use crate::given::Given;
 use crate::lines::SpareLines;
+use crate::reset::FirstLines;
 use crate::sheet::{Sheet, Spare};
 use crate::start::{
-    first_basic, first_costs, first_statuses, system_rows, zero_ends, zero_line, zero_values,
+    first_basic, first_costs, first_statuses, no_costs, system_rows, zero_ends, zero_line,
+    zero_values,
 };
 use std::alloc::{AllocError, Global};
 use um_lines::Line;
+use um_lp::Costs;
 
 /// The sheet of the slack basis.
 pub fn first_sheet(alloc: Global, given: &Given) -> Result<Sheet, AllocError>
     ensures basis { IfOk result (λ sheet. HasSlackBasis (state_of given.now sheet)) }
+    ensures costs { IfOk result (λ sheet. sheet.costs ≡ Costs.Given) }
     ensures ends { IfOk result (λ sheet. AreEndsInRange sheet.ends.items) }
 {
     let width = given.width() as usize;
@@ -32,9 +37,20 @@ pub fn first_sheet(alloc: Global, given: &Given) -> Result<Sheet, AllocError>
         at,
         ends,
         entries,
+        costs: Costs::Given,
         reduced,
         values,
     })
+}
+
+/// The lines of the slack basis, which a reset copies.
+pub fn first_lines(alloc: Global, given: &Given) -> Result<FirstLines, AllocError>
+    ensures { IfOk result (AreFirstLines given.now) }
+{
+    let rows = system_rows(alloc, given)?;
+    let costs = first_costs(alloc, given)?;
+    let zeros = no_costs(alloc, given)?;
+    Ok(FirstLines { rows, costs, zeros })
 }
 
 /// Lines of zeros.

@@ -15,7 +15,7 @@ ghost use Rattle.um_tableau.specs.Sheets.{IsSheet, IsSpare, IsPrepared, AreValue
 use crate::lines::{SpareLines, next_lines, take_lines};
 use crate::values::{move_basic, settle_basic};
 use um_lines::Line;
-use um_lp::At;
+use um_lp::{At, Costs};
 use um_num::{Frac, Wide};
 
 /// The basis of a board with the ends of its columns, and the numbers that follow.
@@ -29,6 +29,8 @@ pub struct Sheet {
     pub ends: Vec<(Option<i128>, Option<i128>)>,
     /// The rows of the tableau.
     pub entries: Vec<Line>,
+    /// Which costs are taken.
+    pub costs: Costs,
     /// The reduced costs.
     pub reduced: Line,
     /// The values of all columns.

@@ -9,7 +9,7 @@ ghost use Rattle.um_tableau.specs.Starts.{bare, IsSystemRow, AreCosts, AreSystem
 use crate::given::Given;
 use std::alloc::{AllocError, Global};
 use um_lines::Line;
-use um_lp::At;
+use um_lp::{At, Costs};
 use um_num::Frac;
 
 fn zeros(alloc: Global, width: usize) -> Result<Vec<i128>, AllocError>
@@ -73,12 +73,20 @@ fn system_row(alloc: Global, given: &Given, row: u32) -> Result<Line, AllocError
     Line::from_wholes(alloc, nums)
 }
 
-/// The costs of all columns.
+/// The given costs of all columns.
 pub fn first_costs(alloc: Global, given: &Given) -> Result<Line, AllocError>
-    ensures { IfOk result (AreCosts given.now) }
+    ensures { IfOk result (AreCosts Costs.Given given.now) }
 {
     let mut nums = zeros(alloc, given.width() as usize)?;
     write_costs(given, nums.as_mut_slice());
+    Line::from_wholes(alloc, nums)
+}
+
+/// A cost of 0 for each column.
+pub fn no_costs(alloc: Global, given: &Given) -> Result<Line, AllocError>
+    ensures { IfOk result (AreCosts Costs.Nothing given.now) }
+{
+    let nums = zeros(alloc, given.width() as usize)?;
     Line::from_wholes(alloc, nums)
 }
 
@@ -111,7 +119,7 @@ fn all_lower(alloc: Global, width: usize) -> Result<Vec<At>, AllocError>
 }
 
 /// Marks the slacks as basic.
-fn mark_slacks(at: &mut [At], first: usize, rows: usize)
+pub fn mark_slacks(at: &mut [At], first: usize, rows: usize)
     requires { first + rows ≤ length at.old }
     ensures slacks { (i : ℕ) → i < rows → slice_index_or at.new (first + i) At.Zero ≡ At.Basic }
     ensures before { (j : ℕ) → j < first → slice_index_or at.new j At.Zero ≡ slice_index_or at.old j At.Zero }

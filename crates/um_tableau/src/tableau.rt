@@ -5,23 +5,27 @@ ghost use Rattle.um_lp.specs.Boards.{IsStart};
 ghost use Rattle.um_lp.specs.Relaxations.{frame_of, IsRelaxation};
 ghost use Rattle.um_lp.specs.States.{width};
 ghost use Rattle.um_tableau.specs.Sheets.{state_of, AreEndsInRange, IsSpare};
+ghost use Rattle.um_tableau.specs.Starts.{AreFirstLines};
 ghost use Rattle.um_tableau.specs.Stands.{Stands, board_of};
 
 use crate::given::Given;
-use crate::making::{first_sheet, first_spare};
+use crate::making::{first_lines, first_sheet, first_spare};
+use crate::reset::FirstLines;
 use crate::sheet::{Sheet, Spare};
 use std::alloc::Global;
 use std::cmp::Ordering;
-use um_lp::{At, Board, Relaxation};
+use um_lp::{At, Board, Costs, Relaxation};
 use um_num::{Frac, Memory, Wide};
 
 /// A board that holds all rows of its tableau.
 #[derive(Debug, Drop)]
 pub struct Tableau {
     given: Given,
+    first: FirstLines,
     sheet: Sheet,
     spare: Spare,
     ghost size: { width given < 2 ^ 32 },
+    ghost first_are: { AreFirstLines given first },
     ghost stands: { Stands (state_of given sheet) },
     ghost ends_in: { AreEndsInRange sheet.ends.items },
     ghost room: { IsSpare sheet spare },
@@ -35,10 +39,12 @@ impl Tableau {
         ensures { IfOk result (λ tableau. IsStart (frame_of relaxation.now) (⟦<Tableau as Board>⟧.state tableau)) }
     {
         let given = Given::new(alloc, relaxation)?;
+        let first = first_lines(alloc, &given)?;
         let sheet = first_sheet(alloc, &given)?;
         let spare = first_spare(alloc, &given)?;
         Ok(Tableau {
             given,
+            first,
             sheet,
             spare,
         })
@@ -62,6 +68,10 @@ impl Board for Tableau {
 
     fn columns(&self) -> u32 {
         self.given.width()
+    }
+
+    fn costs(&self) -> Costs {
+        self.sheet.costs
     }
 
     fn at(&self, column: u32) -> At {
@@ -100,5 +110,10 @@ impl Board for Tableau {
     fn rebox(&mut self, column: u32, low: Option<i128>, high: Option<i128>) -> Result<(), Wide> {
         self.sheet
             .rebox(column as usize, low, high, &mut self.spare)
+    }
+
+    fn reset(&mut self, costs: Costs) -> Result<(), Wide> {
+        self.sheet
+            .reset(&self.given, &self.first, costs, &mut self.spare)
     }
 }

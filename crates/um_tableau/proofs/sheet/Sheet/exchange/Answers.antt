@@ -22,6 +22,7 @@ returns-clause-pivoted c =
     (basic ∙ c.set_basic.ensures ∙ ap (λ (xs : List ℕ). slice_set xs c.args.row c.args.column) c.as_mut_slice-4.ensures.value)
     (at ∙ c.set_statuses.ensures ∙ ap (λ (xs : List At). slice_set (slice_set xs c.index.result.now c.args.to) c.args.column Basic) c.as_mut_slice-3.ensures.value ∙ ap (λ (place : ℕ). slice_set (slice_set s.at.items place c.args.to) c.args.column Basic) (c.index.ensures ∙ sym leaving))
     refl
+    refl
     (λ i j li lj. c.take_lines.ensures.entries i j (omega arith) lj ∙ ap (λ (rows : List (List Rational)). pivot_entry (entry_at rows) c.args.row c.args.column i j) c.as_mut_slice-2.ensures.value)
     (λ j l. c.take_lines.ensures.reduced j l ∙ ap (λ (rows : List (List Rational)). add (number_at s.reduced j) (mul (number_at s.reduced c.args.column) (pivot_line (entry_at rows) c.args.row c.args.column j))) c.as_mut_slice-2.ensures.value)
     (rw (← c.as_slice.ensures.value, ← c.as_slice-2.ensures.value, ← c.as_mut_slice.ensures.value) c.set_values.ensures)

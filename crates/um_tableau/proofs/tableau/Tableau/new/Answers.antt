@@ -14,10 +14,11 @@ invariant_of-result c =
     let h = c.in_ok-sheet.ensures.basis in
     record {
       size = subst (λ (g : Frame). width g < 2 ^ 32) (sym c.in_ok-given.ensures) c.requires.size;
+      first_are = c.in_ok-first.ensures;
       stands = stands_of (state_of f s) (IsBoard-start (state_of f s) h);
       ends_in = c.in_ok-sheet.ensures.ends;
       room = first_room f s c.in_ok-spare.spare h c.in_ok-spare.ensures.lines c.in_ok-spare.ensures.moved;
     }
 
 pub returns : goal.returns
-returns c = IsStart-start (frame_of c.args.relaxation.now) (state_of c.in_ok-given.given c.in_ok-sheet.sheet) c.in_ok-given.ensures refl refl c.in_ok-sheet.ensures.basis
+returns c = IsStart-start (frame_of c.args.relaxation.now) (state_of c.in_ok-given.given c.in_ok-sheet.sheet) c.in_ok-given.ensures refl c.in_ok-sheet.ensures.costs c.in_ok-sheet.ensures.basis

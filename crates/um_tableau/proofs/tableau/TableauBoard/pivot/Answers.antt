@@ -15,7 +15,7 @@ invariant_of-self c =
     by_result c.pivot.result c.pivot.ensures.pivoted c.pivot.ensures.kept
     (λ p. keeps_pivot t.given t.sheet after c.pivot.new.spare c.args.row c.args.column c.args.to _ t.ends_in c.pivot.ensures.spare (pivot_is t.given t.sheet after c.args.row c.args.column c.args.to t.stands r.row_in r.column_in r.nonbasic r.not_zero r.finite p) p)
     (λ e. keeps_still t.given t.sheet after c.pivot.new.spare t.stands t.ends_in c.pivot.ensures.spare e) in
-    record { size = t.size; stands = keeps.stands; ends_in = keeps.ends_in; room = keeps.room }
+    record { size = t.size; first_are = t.first_are; stands = keeps.stands; ends_in = keeps.ends_in; room = keeps.room }
 
 pub returns-clause-ok : goal.returns-clause-ok
 returns-clause-ok c =

@@ -16,7 +16,7 @@ invariant_of-self c =
     by_result c.rebox.result c.rebox.ensures.reboxed c.rebox.ensures.kept
     (λ p. keeps_rebox t.given t.sheet after c.rebox.new.spare c.args.column (c.args.low, c.args.high) t.ends_in c.rebox.ensures.spare (omega (arith, t.stands.ends)) r.low_in r.high_in (rebox_is t.given t.sheet after c.args.column (c.args.low, c.args.high) t.stands r.column_in p) p)
     (λ e. keeps_still t.given t.sheet after c.rebox.new.spare t.stands t.ends_in c.rebox.ensures.spare e) in
-    record { size = t.size; stands = keeps.stands; ends_in = keeps.ends_in; room = keeps.room }
+    record { size = t.size; first_are = t.first_are; stands = keeps.stands; ends_in = keeps.ends_in; room = keeps.room }
 
 pub returns-clause-ok : goal.returns-clause-ok
 returns-clause-ok c =
