@@ -11,6 +11,7 @@ use Rattle.um_lp.specs.Basis.{sum_below, Solves}
 use Rattle.um_lp.specs.States.{State, Frame, ColumnData, no_data, width, slack, data_of, system, charge, cost_of}
 use Rattle.um_lp.specs.States as lp
 use Rattle.um_lp.specs.declared.board.Costs.{Costs}
+use Rattle.um_lp.specs.declared.board.Costs.TheVariants.{Given, Nothing}
 use Rattle.um_lp.specs.declared.relaxation.Term.{Term}
 use Rattle.um_laws.proofs.RationalEquations.{by_ring}
 use Rattle.um_lp.proofs.Rows.{by_row, by_below}
@@ -48,14 +49,17 @@ module _ (d : DeckValue) (s : State) (stands : StandsFor d s) where
       (λ h. absurd (omega arith))
       (λ h. by_below (λ t. cond t no_data (slice_index_or s.placed (j - slack s.frame s.frame.rows) no_data) ≡ no_data) j (slack s.frame s.frame.rows) (λ k. refl) (λ k. absurd (omega (arith, rows-is))))
 
-  cost-is : (j : ℕ) (c : ColumnData) → data_of s j ≡ c → cost_of s j ≡ whole c.cost
-  cost-is j c e = ap (λ (k : Costs). whole (charge k (data_of s j).cost)) stands.costs ∙ ap (λ (x : ColumnData). whole x.cost) e
+  -- a board with the given costs has those of the deck
+  pub cost-column : s.costs ≡ Given → (j : ℕ) → j < n → cost_of s j ≡ whole (column_at d j).cost
+  cost-column given j l = ap (λ (k : Costs). whole (charge k (data_of s j).cost)) given ∙ ap (λ (x : ColumnData). whole x.cost) (data-column j l)
 
-  pub cost-column : (j : ℕ) → j < n → cost_of s j ≡ whole (column_at d j).cost
-  cost-column j l = cost-is j (column_data (column_at d j)) (data-column j l)
+  -- nothing is charged for a slack, whichever costs the board takes
+  charge-none : (k : Costs) → charge k (pos 0) ≡ pos 0
+  charge-none Given = refl
+  charge-none Nothing = refl
 
   pub cost-slack : (i : ℕ) → i < length d.rows → cost_of s (slack s.frame i) ≡ whole (pos 0)
-  cost-slack i l = cost-is (slack s.frame i) no_data (data-slack i l)
+  cost-slack i l = ap (λ (x : ColumnData). whole (charge s.costs x.cost)) (data-slack i l) ∙ ap whole (charge-none s.costs)
 
   pub system-column : (i j : ℕ) → j < n → system s i j ≡ whole (coefficient i (column_at d j))
   system-column i j l =

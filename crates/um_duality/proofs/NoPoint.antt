@@ -20,7 +20,7 @@ use Rattle.um_lp.proofs.Sums.{sum-cong, sum-mul, sum-change, sum-scaled}
 use Rattle.um_duality.specs.Laws.{IsOnBox, FarkasLaw}
 use Rattle.um_duality.specs.Readings.{turned, AreFarkasNumbers}
 use Rattle.um_duality.proofs.Wholes.{whole-positive, positive-whole, not_zero, not_both, num-under, factor-above, factor-under}
-use Rattle.um_duality.proofs.LeafBridge.{Takes, IsPriced, multipliers_of, leaf-value-is, leaf-total-is}
+use Rattle.um_duality.proofs.LeafBridge.{Takes, IsPriced, column_at, multipliers_of, leaf-value-is, leaf-total-is}
 use Rattle.um_duality.proofs.DeckBoards.{width-is}
 use Rattle.um_duality.proofs.PricedBoards.{IsCombined, priced-board, takes-none, takes-end, basic-or-not}
 
@@ -180,7 +180,7 @@ module _ (d : DeckValue) (b : BoxValue) (s : State) (row : ℕ) (on : IsOnBox d 
       (λ h. subst (λ (x : ℕ). Takes (factor x) (ends_of s x) (whole out.end)) (sym h) takes-own) (λ h. takes-other j l h)
 
   priced : IsPriced d b (pos 0) numbers factor value
-  priced = priced-board d b s (pos 0) numbers factor value on combined takes-all
+  priced = priced-board d b s (pos 0) numbers factor value on (λ j l. by_ring (whole (column_at d j).cost ∷ cost_of s j ∷ []) (nought ⊗ var 0) (nought ⊗ var 1) refl) combined takes-all
 
   value-own : value own ≡ whole out.end
   value-own = by_row (λ t. cond t (whole out.end) (value_of s own) ≡ whole out.end) own own (λ h. refl) (λ h. absurd (h refl))

@@ -18,7 +18,7 @@ use Rattle.um_lp.proofs.Sums.{sum-cong}
 use Rattle.um_duality.specs.Laws.{IsOnBox}
 use Rattle.um_duality.proofs.Wholes.{not_zero}
 use Rattle.um_duality.proofs.LeafBridge.{Takes, IsPriced, column_at, number, reduced-cost-is}
-use Rattle.um_duality.proofs.DeckBoards.{rows-is, slack-is, width-is, cost-column, system-column}
+use Rattle.um_duality.proofs.DeckBoards.{rows-is, slack-is, width-is, system-column}
 
 -- ---- what a column takes
 
@@ -58,9 +58,13 @@ pub record IsCombined (s : State) (y0 : ℤ) (numbers : List ℤ) (factor : ℕ 
   pub slacks : (i : ℕ) → i < s.frame.rows → whole (number numbers i) ≡ factor (slack s.frame i)
   pub columns : (j : ℕ) → j < width s.frame → factor j ≡ add (mul (whole y0) (cost_of s j)) (neg (sum_below s.frame.rows (λ i. mul (factor (slack s.frame i)) (system s i j))))
 
-pub priced-board : (d : DeckValue) (b : BoxValue) (s : State) (y0 : ℤ) (numbers : List ℤ) (factor value : ℕ → Rational) → IsOnBox d b s → IsCombined s y0 numbers factor
+-- y0 times the board's costs are y0 times those of the deck: the board takes the given costs, or y0 is 0
+abbrev pub HasCostsTimes : DeckValue → State → ℤ → Type 0
+HasCostsTimes d s y0 = (j : ℕ) → j < length d.columns → mul (whole y0) (whole (column_at d j).cost) ≡ mul (whole y0) (cost_of s j)
+
+pub priced-board : (d : DeckValue) (b : BoxValue) (s : State) (y0 : ℤ) (numbers : List ℤ) (factor value : ℕ → Rational) → IsOnBox d b s → HasCostsTimes d s y0 → IsCombined s y0 numbers factor
     → ((j : ℕ) → j < width s.frame → Takes (factor j) (ends_of s j) (value j)) → IsPriced d b y0 numbers factor value
-priced-board d b s y0 numbers factor value on combined takes =
+priced-board d b s y0 numbers factor value on costs combined takes =
     let rows : s.frame.rows ≡ length d.rows = rows-is d s on.stands in
     let wide : width s.frame ≡ length d.columns + length d.rows = width-is d s on.stands in
     record {
@@ -68,7 +72,7 @@ priced-board d b s y0 numbers factor value on combined takes =
       count = combined.count ∙ rows;
       columns = λ j l.
           reduced-cost-is y0 numbers (column_at d j)
-          ∙ ap (λ (x : Rational). add (mul (whole y0) x) (neg (sum_below (length numbers) (λ i. mul (whole (number numbers i)) (whole (coefficient i (column_at d j))))))) (sym (cost-column d s on.stands j l))
+          ∙ ap (λ (x : Rational). add x (neg (sum_below (length numbers) (λ i. mul (whole (number numbers i)) (whole (coefficient i (column_at d j))))))) (costs j l)
           ∙ ap (λ (x : Rational). add (mul (whole y0) (cost_of s j)) (neg x))
           (ap (λ (k : ℕ). sum_below k (λ i. mul (whole (number numbers i)) (whole (coefficient i (column_at d j))))) combined.count
           ∙ sum-cong s.frame.rows _ _ (λ i q. ap (λ (x : Rational). mul x (whole (coefficient i (column_at d j)))) (combined.slacks i q) ∙ ap (mul (factor (slack s.frame i))) (sym (system-column d s on.stands i j l))))

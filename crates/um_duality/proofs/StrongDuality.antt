@@ -16,6 +16,7 @@ use Rattle.um_lp.specs.Basis.{sum_below}
 use Rattle.um_lp.specs.States.{State, width, slack, system, cost_of, at_of, ends_of, reduced_of, value_of}
 use Rattle.um_lp.specs.WideStates.{common_denominator}
 use Rattle.um_lp.specs.declared.board.At.TheVariants.{Basic}
+use Rattle.um_lp.specs.declared.board.Costs.TheVariants.{Given}
 use Rattle.um_laws.proofs.RationalEquations.{by_ring}
 use Rattle.um_lp.proofs.Denominators.{denominator_positive}
 use Rattle.um_lp.proofs.Orders.{whole_num}
@@ -41,7 +42,7 @@ power-positive (suc k) = let h = power-positive k in omega arith
 whole-product : (a b : ℕ) → whole (pos (a * b)) ≡ mul (whole (pos a)) (whole (pos b))
 whole-product a b = ap whole (sym (pos-*ℤ-pos a b)) ∙ whole-mul (pos a) (pos b)
 
-module _ (d : DeckValue) (b : BoxValue) (s : State) (on : IsOnBox d b s) where
+module _ (d : DeckValue) (b : BoxValue) (s : State) (on : IsOnBox d b s) (given : s.costs ≡ Given) where
   abbrev w : ℕ
   w = width s.frame
 
@@ -89,7 +90,7 @@ module _ (d : DeckValue) (b : BoxValue) (s : State) (on : IsOnBox d b s) where
           (λ p. (on.feasible j l).negative h (num-under (reduced_of s j) (factor-under k (reduced_of s j) above p)))
 
   priced : IsPriced d b (pos y0) numbers factor (value_of s)
-  priced = priced-board d b s (pos y0) numbers factor (value_of s) on combined takes-all
+  priced = priced-board d b s (pos y0) numbers factor (value_of s) on (λ j l. ap (mul k) (sym (cost-column d s on.stands given j l))) combined takes-all
 
   -- what the columns cost
   abbrev cost : Rational
@@ -105,7 +106,7 @@ module _ (d : DeckValue) (b : BoxValue) (s : State) (on : IsOnBox d b s) where
       ap (λ (m : ℕ). sum_below m part) (width-is d s on.stands) ∙ sum-split (length d.columns) (length d.rows) part
       ∙ ap (add (sum_below (length d.columns) part)) nothing
       ∙ by_ring (sum_below (length d.columns) part ∷ []) (var 0 ⊕ nought) (var 0) refl
-      ∙ sum-cong (length d.columns) _ _ (λ j l. ap (λ (x : Rational). mul x (value_of s j)) (cost-column d s on.stands j l))
+      ∙ sum-cong (length d.columns) _ _ (λ j l. ap (λ (x : Rational). mul x (value_of s j)) (cost-column d s on.stands given j l))
 
   abbrev constant : Rational
   constant = whole d.constant
@@ -173,5 +174,5 @@ module _ (d : DeckValue) (b : BoxValue) (s : State) (on : IsOnBox d b s) where
       ∙ ap (λ (x : Rational). mul x bound) (sym (whole-product (q * q) (10 ^ d.scale) ∙ ap (λ (x : Rational). mul x power) (whole-product q q))))
 
 pub strong-duality-law : StrongDualityLaw
-strong-duality-law d b s on =
-    (leaf_total d b (multipliers s), leaf-value-is d b (pos (common_denominator (slack_costs s))) (whole_multiples (slack_costs s)) _ _ (priced d b s on), leaf-bound-is d b s on ∙ sym (objective-is d b s on))
+strong-duality-law d b s on given =
+    (leaf_total d b (multipliers s), leaf-value-is d b (pos (common_denominator (slack_costs s))) (whole_multiples (slack_costs s)) _ _ (priced d b s on given), leaf-bound-is d b s on given ∙ sym (objective-is d b s on given))

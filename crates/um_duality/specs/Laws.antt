@@ -9,6 +9,7 @@ use Rattle.um_model.specs.LeafValue.{leaf_value, leaf_bound, Empties}
 use Rattle.um_model.specs.declared.deck.Kind.TheVariants.{Continuous}
 use Rattle.um_model.specs.declared.leaf.Leaf.TheVariants.{Value}
 use Rattle.um_lp.specs.States.{State}
+use Rattle.um_lp.specs.declared.board.Costs.TheVariants.{Given}
 use Rattle.um_lp.specs.Boards.{IsBoard}
 use Rattle.um_lp.specs.DualSteps.{IsDualFeasible, IsNext, Ended, NoPoint}
 use Rattle.um_duality.specs.Relaxed.{StandsFor}
@@ -38,10 +39,10 @@ VertexLaw = (d : DeckValue) (b : BoxValue) (s : State) → IsOnBox d b s → IsN
 abbrev pub ContinuousLaw : Type 0
 ContinuousLaw = (d : DeckValue) (p : PointValue) → d.sets ≡ [] → All (λ (c : ColumnValue). c.kind ≡ Continuous) d.columns → HoldsOnBox d (root d) p → Feasible d p
 
--- The leaf's value under the multipliers has an end, and its bound is the objective of the vertex. This holds of every dual feasible basis: where the run has ended, a feasible point meets the bound.
+-- Where the board takes the given costs, the leaf's value under the multipliers has an end, and its bound is the objective of the vertex. This holds of every dual feasible basis: where the run has ended, a feasible point meets the bound.
 abbrev pub StrongDualityLaw : Type 0
 StrongDualityLaw =
-    (d : DeckValue) (b : BoxValue) (s : State) → IsOnBox d b s
+    (d : DeckValue) (b : BoxValue) (s : State) → IsOnBox d b s → s.costs ≡ Given
     → (value : ℤ) × (leaf_value d b (multipliers s) ≡ Value value) × (leaf_bound d (multipliers s).y0 value ≡ objective d (vertex s))
 
 -- Where no column may enter, the multipliers of Farkas empty the box.

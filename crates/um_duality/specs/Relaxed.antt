@@ -3,7 +3,6 @@ use Rattle.std.specs.Prelude.{◌≡◌, ℤ, pos, ◌*ℤ◌, [], length, map, 
 use Rattle.um_model.specs.Values.{DeckValue, ColumnValue}
 use Rattle.um_model.specs.declared.deck.Entry.{Entry}
 use Rattle.um_lp.specs.States.{ColumnData, Frame, State}
-use Rattle.um_lp.specs.declared.board.Costs.TheVariants.{Given}
 use Rattle.um_lp.specs.declared.relaxation.Term.{Term}
 
 -- an entry of the deck, as a term; the columns are in thousandths, and so are the rows' sums
@@ -22,8 +21,7 @@ column_data c = record { cost = c.cost; terms = map term_of c.entries }
 abbrev pub deck_frame : DeckValue → Frame
 deck_frame d = record { rows = length d.rows; columns = map column_data d.columns; places = 0 }
 
--- the board has the deck's rows and costs
+-- the board is made from the deck's rows and costs; which costs it takes is free: the given ones, or none
 pub record StandsFor (d : DeckValue) (s : State) : Type 0 where
   pub frame : s.frame ≡ deck_frame d
   pub placed : s.placed ≡ []
-  pub costs : s.costs ≡ Given

@@ -1,6 +1,7 @@
 pub mod BoxEnds
 pub mod CommonDivisors
 pub mod FarkasNumbers
+pub mod KeyParts
 pub mod MadeRelaxations
 pub mod NormalPrices
 pub mod PartDenominators

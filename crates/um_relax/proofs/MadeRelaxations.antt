@@ -16,6 +16,7 @@ use Rattle.um_lp.specs.Relaxations.{columns_of, frame_of, AreTerms, IsRelaxation
 use Rattle.um_lp.specs.declared.relaxation.Term.{Term}
 use Rattle.um_lp.specs.declared.relaxation.Relaxation.{Relaxation}
 use Rattle.um_duality.specs.Relaxed.{term_of, side_end, column_data, deck_frame}
+use Rattle.um_relax.specs.KeyRows.{AreKeyRows}
 use Rattle.um_relax.specs.Relaxations.{IsRelaxationOf}
 
 -- what the parts of the relaxation are, made of these columns and rows
@@ -29,7 +30,7 @@ pub record IsMadeOf (columns : List Column) (rows : List Row) (r : Relaxation) :
   pub costs : r.costs.items ≡ map (λ (c : Column). c.cost) columns
   pub entries : map (λ (t : Listed Term). t.items) r.entries.items ≡ map (λ (c : Column). map term_of c.entries.items) columns
   pub bends : r.bends.items ≡ []
-  pub keys : r.keys.items ≡ []
+  pub keys : AreKeyRows (map plain_column columns) rows (length rows) r.keys.items
   pub room : r.room.items ≡ []
 
 -- two maps one after the other
@@ -53,7 +54,7 @@ made_relaxed d columns rows r e f m = record {
   bends = m.bends;
   bent_cost = m.bent_cost;
   bent_rows = m.bent_rows ∙ ap (λ (rs : List Row). map (λ (row : Row). false) rs) f;
-  keys = m.keys;
+  keys = subst (λ (rs : List Row). AreKeyRows d.columns rs (length rs) r.keys.items) f (subst (λ (cs : List ColumnValue). AreKeyRows cs rows (length rows) r.keys.items) e m.keys);
   room = m.room;
 }
 

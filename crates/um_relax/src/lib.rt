@@ -11,6 +11,7 @@
 
 mod ends;
 mod infeasible;
+mod key_rows;
 mod large;
 mod making;
 mod point;
@@ -25,3 +26,4 @@ pub use point::vertex;
 pub use row_multipliers::multipliers;
 pub use um_lp::{Multipliers, Price, Relaxation};
 pub use um_model::Point;
+pub use whole::{Whole, least_whole};

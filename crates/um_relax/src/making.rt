@@ -10,6 +10,7 @@ ghost use Rattle.um_lp.specs.declared.relaxation.Term.{Term};
 ghost use Rattle.um_duality.specs.Relaxed.{deck_frame, side_end, term_of};
 ghost use Rattle.um_relax.specs.Relaxations.{IsRelaxationOf};
 
+use crate::key_rows::key_rows;
 use std::alloc::Global;
 use um_deck::{Column, Deck, Entry, Row};
 use um_lp::{Relaxation, Term};
@@ -35,7 +36,7 @@ pub fn build(alloc: Global, deck: &Deck) -> Result<Relaxation, Memory>
         costs: costs(alloc, columns)?,
         entries: entries(alloc, columns)?,
         bends: List::new(alloc),
-        keys: List::new(alloc),
+        keys: key_rows(alloc, columns, rows)?,
         room: List::new(alloc),
     })
 }

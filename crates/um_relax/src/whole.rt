@@ -13,9 +13,9 @@ use um_num::{Frac, List, Memory, gcd};
 
 /// Whole numbers over one denominator.
 #[derive(Debug, Drop)]
-pub(crate) struct Whole {
-    pub(crate) den: i128,
-    pub(crate) parts: List<i128>,
+pub struct Whole {
+    pub den: i128,
+    pub parts: List<i128>,
 }
 
 /// The product, if it is below the limit in size.
@@ -78,11 +78,7 @@ fn times(multiple: i128, x: &Frac, limit: u64) -> Option<i128>
 
 /// The numbers over their least common denominator; `None` where that or one of the whole numbers is
 /// not below the limit in size.
-pub(crate) fn least_whole(
-    alloc: Global,
-    numbers: &[Frac],
-    limit: u64,
-) -> Result<Option<Whole>, Memory>
+pub fn least_whole(alloc: Global, numbers: &[Frac], limit: u64) -> Result<Option<Whole>, Memory>
     requires { 1 < limit }
     ensures { IfOk result (λ whole. MatchOption whole (AreTooLarge limit numbers.now) (IsWholeOf limit numbers.now)) }
 {

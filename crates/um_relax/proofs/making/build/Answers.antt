@@ -4,7 +4,7 @@ use Rattle.um_relax.proofs.MadeRelaxations.{IsMadeOf, made_relaxed, relaxed_fram
 use Rattle.um_relax.specs.Relaxations.{IsRelaxationOf}
 use Rattle.um_relax.proofs.making.build.Goals as goal
 
-made : (c : goal.After-new-3) → Relaxation
+made : (c : goal.After-new-2) → Relaxation
 made c = record {
   columns = length c.columns-columns.result.now;
   rows = length c.rows-rows.result.now;
@@ -15,11 +15,11 @@ made c = record {
   costs = c.in_ok-costs.field-0;
   entries = c.in_ok-entries.field-0;
   bends = c.new.result;
-  keys = c.new-2.result;
-  room = c.new-3.result;
+  keys = c.in_ok-key_rows.field-0;
+  room = c.new-2.result;
 }
 
-is_made : (c : goal.After-new-3) → IsMadeOf c.columns-columns.result.now c.rows-rows.result.now (made c)
+is_made : (c : goal.After-new-2) → IsMadeOf c.columns-columns.result.now c.rows-rows.result.now (made c)
 unfolding made
 is_made c = record {
   column_count = refl;
@@ -31,11 +31,11 @@ is_made c = record {
   costs = c.in_ok-costs.ensures;
   entries = c.in_ok-entries.ensures;
   bends = c.new.ensures.items;
-  keys = c.new-2.ensures.items;
-  room = c.new-3.ensures.items;
+  keys = c.in_ok-key_rows.ensures;
+  room = c.new-2.ensures.items;
 }
 
-relaxed : (c : goal.After-new-3) → IsRelaxationOf c.args.deck.now (made c)
+relaxed : (c : goal.After-new-2) → IsRelaxationOf c.args.deck.now (made c)
 relaxed c = made_relaxed c.args.deck.now c.columns-columns.result.now c.rows-rows.result.now (made c) c.columns-columns.ensures c.rows-rows.ensures (is_made c)
 
 pub returns-clause-relaxed : goal.returns-clause-relaxed

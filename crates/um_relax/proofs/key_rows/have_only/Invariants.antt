@@ -1,0 +1,7 @@
+use Rattle.std.proofs.Common.{ℕ, ◌<◌, get_or}
+use Rattle.um_model.specs.declared.deck.Column.{Column}
+use Rattle.um_relax.specs.KeyTests.{HasOnly}
+use Rattle.um_relax.proofs.key_rows.have_only.Given as goal
+
+abbrev pub invariant-loop-column : goal.invariant-loop-column
+invariant-loop-column l = (k : ℕ) (d : Column) → k < l.column-index → HasOnly l.row l.value (get_or l.columns k d).entries.items
