@@ -1,6 +1,6 @@
 -- The columns that a box holds at 0, as members of sets outside the sets' intervals.
 use Rattle.std.proofs.Common.{◌≡◌, ◌∙◌, ℕ, ◌+◌, ◌-◌, ◌<◌, nat_lt, ℤ, pos, ◌≤ℤ◌, Bool, true, false, ◌||◌, ◌&&◌, inl, inr, List, length, slice_get, slice_index_or, Some, sym, ap, subst, eqb-true, arith}
-use Rattle.std.specs.Prelude.{◌==◌}
+use Rattle.std.specs.Prelude.{◌==◌, IsSome}
 use Rattle.std.specs.List.{list_any, enumerate_from}
 use Rattle.std.proofs.lemmas.Bool.{and_parts, and_from, or_cases, or_left, or_right, eq-eqb, false_from_ne_true}
 use Rattle.std.proofs.lemmas.Bool.Decides.{nat_tests}
@@ -104,6 +104,13 @@ pub none_shut_out : (d : DeckValue) (column : ℕ) → is_shut_out d (root d) co
 none_shut_out d column = false_from_ne_true (is_shut_out d (root d) column) (λ e. none_held d column (held d (root d) column e))
 
 -- ---- members
+
+-- a member of a well-formed deck has a finite high end
+pub member_ends : (d : DeckValue) (b : BoxValue) (column : ℕ) (c : ColumnValue) → IsDeck d → AtPlace d.columns column c → IsHeld d b column → IsSome c.high
+member_ends d b column c formed at h =
+    let set : IsSet d h.whole = all_at (IsSet d) d.sets h.set h.whole formed.sets h.at_set in
+    let member : IsMember d h.member = all_at (IsMember d) h.whole.members h.position h.member set.members h.at_position in
+    member.high c (subst (λ (j : ℕ). AtPlace d.columns j c) (sym h.is) at)
 
 -- a member of a well-formed deck has the low end 0, and so no high end below that
 pub member_high : (d : DeckValue) (b : BoxValue) (column : ℕ) (c : ColumnValue) (high : ℤ) → IsDeck d → AtPlace d.columns column c → IsHeld d b column → c.high ≡ Some high → pos 0 ≤ℤ high

@@ -1,10 +1,10 @@
 pub mod Runs
 pub mod Prices
 pub mod Refusals
-pub mod BoxEnds
 pub mod HeldColumns
 pub mod RootBoxes
 pub mod FeasiblePoints
 pub mod SetMembers
 pub mod Goings
+pub mod NoCosts
 pub mod NodeReadings

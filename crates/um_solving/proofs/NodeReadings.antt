@@ -24,10 +24,11 @@ use Rattle.um_duality.proofs.ReadNumbers.{costs-length}
 use Rattle.um_duality.proofs.FeasibleVertex as FeasibleVertex
 use Rattle.um_duality.proofs.StrongDuality.{strong-duality-law}
 use Rattle.um_duality.proofs.NoPoint.{farkas-law}
-use Rattle.um_solving.specs.Laws.{VertexLaw, EmptyLaw, StoppedLaw, OwnSays}
-use Rattle.um_solving.specs.Solvings.{IsRun, IsUnread, OwnMultipliers, VertexValues, FarkasMultipliers, WideEnds, WideReading}
+use Rattle.um_relax.specs.Runs.{IsRun}
+use Rattle.um_solving.specs.Laws.{VertexLaw, HeldLaw, EmptyLaw, StoppedLaw, OwnSays}
+use Rattle.um_solving.specs.Solvings.{IsUnread, OwnMultipliers, VertexValues, FarkasMultipliers, WideEnds, WideReading}
 use Rattle.um_solving.proofs.Prices.{rising_prices}
-use Rattle.um_solving.proofs.Runs.{run_stands, on_box}
+use Rattle.um_solving.proofs.Runs.{run_stands, on_box, same-costs-law}
 
 positive_multipliers : (s : State) → pos 0 <ℤ (multipliers s).y0
 positive_multipliers s = let h = denominator_positive (slack_costs s) in omega (arith, ints)
@@ -47,14 +48,22 @@ module _ (d : DeckValue) (b : BoxValue) (before : State) (pivots : ℕ) (s : Sta
       let count : length h.numbers ≡ length d.rows = h.are.count ∙ same_rows in
       subst (λ (ps : List Price). HasRisingRows (length d.rows) ps) (sym h.rows) (rising_prices (length d.rows) h.numbers count)
 
+pub held-law : HeldLaw
+held-law d b before pivots s p y no_arcs stands h = record {
+  holds = subst (HoldsOnBox d b) (sym h.point) (FeasibleVertex.vertex-law d b s (on_box d b before pivots s no_arcs stands h.run) h.ended);
+  positive = subst (λ (m : MultipliersValue). pos 0 <ℤ m.y0) (sym h.multipliers) (positive_multipliers s);
+  rising = subst (λ (m : MultipliersValue). HasRisingRows (length d.rows) m.rows) (sym h.multipliers) (rising_multipliers d b before pivots s stands h.run);
+}
+
 pub vertex-law : VertexLaw
-vertex-law d b before pivots s p y no_arcs stands h =
+vertex-law d b before pivots s p y no_arcs stands given h =
     let on = on_box d b before pivots s no_arcs stands h.run in
-    let (value, value_is, bound_is) = strong-duality-law d b s on in
+    let (value, value_is, bound_is) = strong-duality-law d b s on (same-costs-law d b before pivots s h.run ∙ given) in
+    let held = held-law d b before pivots s p y no_arcs stands h in
     record {
-      holds = subst (HoldsOnBox d b) (sym h.point) (FeasibleVertex.vertex-law d b s on h.ended);
-      positive = subst (λ (m : MultipliersValue). pos 0 <ℤ m.y0) (sym h.multipliers) (positive_multipliers s);
-      rising = subst (λ (m : MultipliersValue). HasRisingRows (length d.rows) m.rows) (sym h.multipliers) (rising_multipliers d b before pivots s stands h.run);
+      holds = held.holds;
+      positive = held.positive;
+      rising = held.rising;
       value = value;
       value_is = ap (leaf_value d b) h.multipliers ∙ value_is;
       bound_is = ap (λ (m : MultipliersValue). leaf_bound d m.y0 value) h.multipliers ∙ bound_is ∙ ap (objective d) (sym h.point);
@@ -85,17 +94,17 @@ module _ (d : DeckValue) (b : BoxValue) (before : State) (pivots : ℕ) (y : Mul
   unread_says s run (VertexValues ended own below) = own_says s run own below
   unread_says s run (FarkasMultipliers row no_point e) = none_own d y e
 
-  value_says : (number told step : ℕ) (w : Wide) → WideEnds d b before pivots number told step w (Some y) ⊎ WideReading d b before pivots number told step w (Some y) → OwnSays d y
-  value_says number told step w (inl h) = none_own d y h.unread
-  value_says number told step w (inr h) = unread_says h.state h.run h.unread
+  value_says : (early number told step : ℕ) (w : Wide) → WideEnds d b before early pivots number told step w (Some y) ⊎ WideReading d b before early pivots number told step w (Some y) → OwnSays d y
+  value_says early number told step w (inl h) = none_own d y h.unread
+  value_says early number told step w (inr h) = unread_says h.state h.run h.unread
 
 pub stopped-law : StoppedLaw
-stopped-law d b before pivots left number why.Nodes y stands h = absurd h
-stopped-law d b before pivots left number why.Pivots y stands h = none_own d y h.unread
-stopped-law d b before pivots left number (why.Points column) y stands h = absurd h
-stopped-law d b before pivots left number (why.Grid told) y stands h = absurd h
-stopped-law d b before pivots left number (why.Pivot told step wide) y stands h = none_own d y h.unread
-stopped-law d b before pivots left number (why.Value told step wide) y stands h = value_says d b before pivots y stands number told step wide h
-stopped-law d b before pivots left number (why.Leaf told) y stands h = none_own d y h.unread
-stopped-law d b before pivots left number (why.Vertex told) y stands h = own_says d b before pivots y stands h.state h.run h.multipliers h.small
-stopped-law d b before pivots left number why.Ray y stands h = absurd h
+stopped-law d b before early pivots left number why.Nodes y stands h = absurd h
+stopped-law d b before early pivots left number why.Pivots y stands h = none_own d y h.unread
+stopped-law d b before early pivots left number (why.Points column) y stands h = absurd h
+stopped-law d b before early pivots left number (why.Grid told) y stands h = absurd h
+stopped-law d b before early pivots left number (why.Pivot told step wide) y stands h = none_own d y h.unread
+stopped-law d b before early pivots left number (why.Value told step wide) y stands h = value_says d b before pivots y stands early number told step wide h
+stopped-law d b before early pivots left number (why.Leaf told) y stands h = none_own d y h.unread
+stopped-law d b before early pivots left number (why.Vertex told) y stands h = own_says d b before pivots y stands h.state h.run h.multipliers h.small
+stopped-law d b before early pivots left number why.Ray y stands h = absurd h

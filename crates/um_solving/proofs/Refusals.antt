@@ -34,21 +34,21 @@ module _ (d : DeckValue) (b : BoxValue) (step number : ℕ) (s : State) (result 
 
   -- the multipliers of a vertex are too large
   pub large_multipliers : (how : Large) → IsNext s Ended → IsRefusedReading s (¬ AreSmall (2 ^ 40) (slack_costs s)) how → RefusedAs how (why.Leaf number) number step None result → HasEnding result
-  large_multipliers large.Large next h is = ended (end.Stopped (why.Leaf number) None) is (λ before left run. record { state = s; run = run; same = refl; cause = inl (next, h); unread = refl })
-  large_multipliers (large.Wide w) next h is = ended (end.Stopped (why.Value number step w) None) is (λ before left run. inr (record { state = s; run = run; same = refl; at = refl; refused = h; unread = OwnMultipliers next refl }))
+  large_multipliers large.Large next h is = ended (end.Stopped (why.Leaf number) None) is (λ before early pivots left at run. record { state = s; run = run; same = refl; cause = inl (next, h); unread = refl })
+  large_multipliers (large.Wide w) next h is = ended (end.Stopped (why.Value number step w) None) is (λ before early pivots left at run. inr (record { state = s; run = run; same = refl; at = at; refused = h; unread = OwnMultipliers next refl }))
   large_multipliers large.Memory next h is = none_read result is
 
   -- those of Farkas are
   pub large_farkas : (row : ℕ) (how : Large) → IsNext s (NoPoint row) → IsRefusedReading s (HasLargeFarkas (2 ^ 40) s row) how → RefusedAs how (why.Leaf number) number step None result → HasEnding result
-  large_farkas row large.Large next h is = ended (end.Stopped (why.Leaf number) None) is (λ before left run. record { state = s; run = run; same = refl; cause = inr (row, next, h); unread = refl })
-  large_farkas row (large.Wide w) next h is = ended (end.Stopped (why.Value number step w) None) is (λ before left run. inr (record { state = s; run = run; same = refl; at = refl; refused = h; unread = FarkasMultipliers row next refl }))
+  large_farkas row large.Large next h is = ended (end.Stopped (why.Leaf number) None) is (λ before early pivots left at run. record { state = s; run = run; same = refl; cause = inr (row, next, h); unread = refl })
+  large_farkas row (large.Wide w) next h is = ended (end.Stopped (why.Value number step w) None) is (λ before early pivots left at run. inr (record { state = s; run = run; same = refl; at = at; refused = h; unread = FarkasMultipliers row next refl }))
   large_farkas row large.Memory next h is = none_read result is
 
   -- the vertex is, and its multipliers are read
   pub large_vertex : (y : Multipliers) (how : Large) → IsNext s Ended → plain_multipliers y ≡ multipliers s → AreBelow (2 ^ 40) (plain_multipliers y) → IsRefusedReading s (¬ AreSmall (2 ^ 36) (natural_values s)) how
       → RefusedAs how (why.Vertex number) number step (Some y) result → HasEnding result
   large_vertex y large.Large next read small h is =
-      ended (end.Stopped (why.Vertex number) (Some y)) is (λ before left run. record { state = s; run = run; same = refl; ended = next; large = h; multipliers = ap Some read; small = subst (AreBelow (2 ^ 40)) read small })
+      ended (end.Stopped (why.Vertex number) (Some y)) is (λ before early pivots left at run. record { state = s; run = run; same = refl; ended = next; large = h; multipliers = ap Some read; small = subst (AreBelow (2 ^ 40)) read small })
   large_vertex y (large.Wide w) next read small h is =
-      ended (end.Stopped (why.Value number step w) (Some y)) is (λ before left run. inr (record { state = s; run = run; same = refl; at = refl; refused = h; unread = VertexValues next (ap Some read) (subst (AreBelow (2 ^ 40)) read small) }))
+      ended (end.Stopped (why.Value number step w) (Some y)) is (λ before early pivots left at run. inr (record { state = s; run = run; same = refl; at = at; refused = h; unread = VertexValues next (ap Some read) (subst (AreBelow (2 ^ 40)) read small) }))
   large_vertex y large.Memory next read small h is = none_read result is

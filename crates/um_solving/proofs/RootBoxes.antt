@@ -1,6 +1,6 @@
 -- Boxes whose ends lie within those of the root box, which is not void.
 use Rattle.std.proofs.Common.{◌≡◌, ◌∙◌, ℕ, ◌<◌, ℤ, pos, ◌+ℤ◌, ◌*ℤ◌, ◌≤ℤ◌, ◌<ℤ◌, Bool, true, false, inl, inr, length, Option, Some, None, refl, sym, ap, subst, arith}
-use Rattle.std.specs.Prelude.{if◌then◌else◌, IsSomeAnd}
+use Rattle.std.specs.Prelude.{if◌then◌else◌, IsSome, IsSomeAnd}
 use Rattle.std.proofs.lemmas.Int.{ints}
 use Rattle.um_laws.proofs.Places.{item_of, item_at, after_set}
 use Rattle.um_model.specs.Values.{DeckValue, ColumnValue}
@@ -15,7 +15,7 @@ use Rattle.um_deck.proofs.ListParts.{all_at}
 use Rattle.um_soundness.proofs.Loops.{root_ends}
 use Rattle.um_solving.specs.Laws.{FullRootLaw, RootWithinLaw, ChildWithinLaw}
 use Rattle.um_solving.specs.RootBoxes.{AreWithin, IsWithinRoot}
-use Rattle.um_solving.proofs.HeldColumns.{held, none_shut_out, member_high}
+use Rattle.um_solving.proofs.HeldColumns.{held, none_shut_out, member_high, member_ends}
 
 -- the root box has the own ends of a column
 pub own_ends : (d : DeckValue) (column : ℕ) (c : ColumnValue) → AtPlace d.columns column c → ends_at (root d) column ≡ record { low = c.low; high = c.high }
@@ -40,6 +40,14 @@ full-root-law d formed (column, inside, crossed) =
 
 -- ---- ends that lie within others
 
+-- an end that is there is not missing
+pub some_none : (o : Option ℤ) → o ≡ None → ¬ IsSome o
+some_none None none some = absurd (cc)
+some_none (Some x) none some = absurd (cc)
+
+and_none : (P : ℤ → Type 0) (o : Option ℤ) → o ≡ None → ¬ IsSomeAnd o P
+and_none P o none and = subst (λ (x : Option ℤ). IsSomeAnd x P) none and
+
 -- what is above a number that is not below the outer end is not below that
 above : (inner : Option ℤ) (outer x : ℤ) → IsSomeAnd inner (λ m. outer ≤ℤ m) → IsSomeAnd inner (λ m. m <ℤ x) → outer ≤ℤ x
 above None outer x a b = absurd a
@@ -56,20 +64,22 @@ pub root-within-law : RootWithinLaw
 root-within-law d column inside = record {
   low = λ l is. subst (λ (o : Option ℤ). IsSomeAnd o (λ m. l ≤ℤ m)) (sym is) (at_most_self l);
   high = λ h is. subst (λ (o : Option ℤ). IsSomeAnd o (λ m. m ≤ℤ h)) (sym is) (at_most_self h);
+  no_low = λ e. e;
+  no_high = λ e. e;
 }
 
 -- whether a set holds the column at 0 or not
-by_shut : (out : Bool) (outer e : Ends) → AreWithin outer e → (out ≡ true → (h : ℤ) → outer.high ≡ Some h → pos 0 ≤ℤ h)
+by_shut : (out : Bool) (outer e : Ends) → AreWithin outer e → (out ≡ true → IsSome outer.high) → (out ≡ true → (h : ℤ) → outer.high ≡ Some h → pos 0 ≤ℤ h)
     → AreWithin outer (if out then record { low = e.low; high = Some (pos 0) } else e)
-by_shut true outer e within from = record { low = within.low; high = from refl }
-by_shut false outer e within from = within
+by_shut true outer e within some from = record { low = within.low; high = from refl; no_low = within.no_low; no_high = λ none. absurd (some_none outer.high none (some refl)) }
+by_shut false outer e within some from = within
 
 -- the ends that the box gives lie within those of the root box, too
 pub given_within : (d : DeckValue) (b : BoxValue) (column : ℕ) → IsDeck d → IsWithinRoot d b → column < length d.columns → AreWithin (ends_at (root d) column) (ends_of d b column)
 given_within d b column formed within inside =
     let c = item_at d.columns column inside in
     let high_is = ap (λ (e : Ends). e.high) (own_ends d column c.0 c.1) in
-    by_shut (is_shut_out d b column) (ends_at (root d) column) (ends_at b column) (within column inside) (λ out h is. member_high d b column c.0 h formed c.1 (held d b column out) (sym high_is ∙ is))
+    by_shut (is_shut_out d b column) (ends_at (root d) column) (ends_at b column) (within column inside) (λ out. subst (λ (o : Option ℤ). IsSome o) (sym high_is) (member_ends d b column c.0 formed c.1 (held d b column out))) (λ out h is. member_high d b column c.0 h formed c.1 (held d b column out) (sym high_is ∙ is))
 
 -- ---- the children
 
@@ -84,12 +94,22 @@ module _ (d : DeckValue) (b : BoxValue) (formed : IsDeck d) (within : IsWithinRo
   -- a high end below that which the box gives
   low_part : (column : ℕ) (at : ℤ) → IsSomeAnd (ends_of d b column).high (λ h. at <ℤ h) → IsWithinRoot d (with_ends b column (record { low = (ends_at b column).low; high = Some at }))
   low_part column at less = put_within column (record { low = (ends_at b column).low; high = Some at })
-      (λ inside. record { low = (within column inside).low; high = λ h is. below (ends_of d b column).high h at ((given_within d b column formed within inside).high h is) less })
+      (λ inside. record {
+        low = (within column inside).low;
+        high = λ h is. below (ends_of d b column).high h at ((given_within d b column formed within inside).high h is) less;
+        no_low = (within column inside).no_low;
+        no_high = λ e. absurd (and_none (λ h. at <ℤ h) (ends_of d b column).high ((given_within d b column formed within inside).no_high e) less);
+      })
 
   -- a low end above that which the box gives
   high_part : (column : ℕ) (at : ℤ) → IsSomeAnd (ends_of d b column).low (λ l. l <ℤ at) → IsWithinRoot d (with_ends b column (record { low = Some at; high = (ends_at b column).high }))
   high_part column at more = put_within column (record { low = Some at; high = (ends_at b column).high })
-      (λ inside. record { low = λ l is. above (ends_of d b column).low l at ((given_within d b column formed within inside).low l is) more; high = (within column inside).high })
+      (λ inside. record {
+        low = λ l is. above (ends_of d b column).low l at ((given_within d b column formed within inside).low l is) more;
+        high = (within column inside).high;
+        no_low = λ e. absurd (and_none (λ l. l <ℤ at) (ends_of d b column).low ((given_within d b column formed within inside).no_low e) more);
+        no_high = (within column inside).no_high;
+      })
 
   -- 0 alone, where that is the low end that the box gives
   nought : (column : ℕ) → (ends_of d b column).low ≡ Some (pos 0) → IsSomeAnd (ends_of d b column).high (λ h. pos 0 <ℤ h) → IsWithinRoot d (with_ends b column (record { low = Some (pos 0); high = Some (pos 0) }))
@@ -97,6 +117,8 @@ module _ (d : DeckValue) (b : BoxValue) (formed : IsDeck d) (within : IsWithinRo
       (λ inside. record {
         low = λ l is. subst (λ (o : Option ℤ). IsSomeAnd o (λ m. l ≤ℤ m)) low_is ((given_within d b column formed within inside).low l is);
         high = λ h is. below (ends_of d b column).high h (pos 0) ((given_within d b column formed within inside).high h is) less;
+        no_low = λ e. (let none = (given_within d b column formed within inside).no_low e in absurd (cc));
+        no_high = λ e. absurd (and_none (λ h. pos 0 <ℤ h) (ends_of d b column).high ((given_within d b column formed within inside).no_high e) less);
       })
 
   child_within : (branch : Branch) (side : Side) → Fits d b branch → IsWithinRoot d (child d b branch side)

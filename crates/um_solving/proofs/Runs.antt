@@ -1,5 +1,5 @@
 -- What a run on a board keeps.
-use Rattle.std.proofs.Common.{◌≡◌, ◌∙◌, ℕ, ◌<◌, zero, suc, Result, Ok, Err, ap, subst}
+use Rattle.std.proofs.Common.{◌≡◌, ◌∙◌, ℕ, ◌+◌, ◌<◌, zero, suc, refl, Result, Ok, Err, ap, subst}
 use Rattle.std.specs.Prelude.{ℤ, List, [], Option, None, slice_index_or, IfOk}
 use Rattle.um_num.specs.declared.Memory.{Memory}
 use Rattle.um_model.specs.Values.{DeckValue}
@@ -12,7 +12,8 @@ use Rattle.um_duality.specs.Laws.{IsOnBox}
 use Rattle.um_duality.specs.Relaxed.{StandsFor}
 use Rattle.um_relax.specs.Reboxings.{AreReboxed, BoxedWhole}
 use Rattle.um_solving.specs.Endings.{EndedAs, HasEndedAs}
-use Rattle.um_solving.specs.Solvings.{IsReady, IsRun}
+use Rattle.um_solving.specs.Laws.{SameCostsLaw}
+use Rattle.um_relax.specs.Runs.{IsReady, IsRun}
 use Rattle.um_solving.specs.declared.node.NodeEnd.{NodeEnd}
 
 same_twice : (s m t : State) → SameRows s m → SameRows m t → SameRows s t
@@ -44,7 +45,7 @@ steps_boxed d b n s t steps boxed = λ column inside.
     ap (λ (xs : List (Option ℤ × Option ℤ)). slice_index_or xs column (None, None)) (steps_ends n s t steps) ∙ boxed column at
 
 stands_after : (d : DeckValue) (s t : State) → StandsFor d s → SameRows s t → StandsFor d t
-stands_after d s t h k = record { frame = k.frame ∙ h.frame; placed = k.placed ∙ h.placed; costs = k.costs ∙ h.costs }
+stands_after d s t h k = record { frame = k.frame ∙ h.frame; placed = k.placed ∙ h.placed }
 
 -- a board that stands for the deck does so with new ends
 pub reboxed_stands : (d : DeckValue) (b : BoxValue) (n : ℕ) (s t : State) → StandsFor d s → AreReboxed d b n s t → StandsFor d t
@@ -53,6 +54,10 @@ reboxed_stands d b n s t h ends = stands_after d s t h (reboxed_same d b n s t e
 -- and after steps
 pub steps_stand : (d : DeckValue) (n : ℕ) (s t : State) → StandsFor d s → AreSteps n s t → StandsFor d t
 steps_stand d n s t h steps = stands_after d s t h (steps_same n s t steps)
+
+-- neither changes the costs that the board takes
+pub same-costs-law : SameCostsLaw
+same-costs-law d b before pivots s run = (steps_same pivots run.ready s run.steps).costs ∙ (reboxed_same d b (width before.frame) before run.ready run.is_ready.ends).costs
 
 -- the board stands for the deck all along
 pub run_stands : (d : DeckValue) (b : BoxValue) (before : State) (pivots : ℕ) (s : State) → StandsFor d before → IsRun d b before pivots s → StandsFor d s
@@ -78,7 +83,7 @@ run_of d b before pivots ready s h steps board feasible = record {
 }
 
 -- what ends by any run of so many pivots ends by this one
-pub ended_of : (d : DeckValue) (b : BoxValue) (before : State) (pivots left number : ℕ) (ready s : State) (result : Result NodeEnd Memory) → IfOk result (λ e. HasEndedAs d b pivots number e s) → IsReady d b before ready → AreSteps pivots ready s
-    → IsBoard s → IsDualFeasible s → IfOk result (λ e. EndedAs d b before pivots left number e s)
-ended_of d b before pivots left number ready s (Ok e) h is steps board feasible = h before left (run_of d b before pivots ready s is steps board feasible)
-ended_of d b before pivots left number ready s (Err m) h is steps board feasible = tt
+pub ended_of : (d : DeckValue) (b : BoxValue) (before : State) (early pivots left number : ℕ) (ready s : State) (result : Result NodeEnd Memory) → IfOk result (λ e. HasEndedAs d b (early + pivots) number e s) → IsReady d b before ready → AreSteps pivots ready s
+    → IsBoard s → IsDualFeasible s → IfOk result (λ e. EndedAs d b before early pivots left number e s)
+ended_of d b before early pivots left number ready s (Ok e) h is steps board feasible = h before early pivots left refl (run_of d b before pivots ready s is steps board feasible)
+ended_of d b before early pivots left number ready s (Err m) h is steps board feasible = tt

@@ -1,16 +1,6 @@
 //! Functions that do nothing: each has a law as its contract, so that the law is sure to be proved.
 
-ghost use Rattle.um_solving.specs.Laws.{RootLaw, ChildLaw, FullRootLaw, RootWithinLaw, ChildWithinLaw, FeasibleLaw, MembersLaw, StartLaw, NextLaw, VertexLaw, EmptyLaw, StoppedLaw};
-
-/// The root box of a deck whose columns have two finite ends has them.
-pub fn root_law()
-    ensures { RootLaw }
-{}
-
-/// The children of a box that has two finite ends for each column have them.
-pub fn child_law()
-    ensures { ChildLaw }
-{}
+ghost use Rattle.um_solving.specs.Laws.{FullRootLaw, RootWithinLaw, ChildWithinLaw, FeasibleLaw, MembersLaw, DiscreteEndsLaw, WithinLaw, NoCostsBeginLaw, NextLaw, SameCostsLaw, VertexLaw, HeldLaw, NoCostsVertexLaw, EmptyLaw, StoppedLaw};
 
 /// The root box of a well-formed deck is not void.
 pub fn full_root_law()
@@ -37,9 +27,19 @@ pub fn members_law()
     ensures { MembersLaw }
 {}
 
-/// The first node may be begun with a board that starts.
-pub fn start_law()
-    ensures { StartLaw }
+/// Integer and semicontinuous columns have two finite ends in a box within the root box.
+pub fn discrete_ends_law()
+    ensures { DiscreteEndsLaw }
+{}
+
+/// What reduced costs want of the root box they want of each box within it.
+pub fn within_law()
+    ensures { WithinLaw }
+{}
+
+/// A node may be begun on a board that takes no costs.
+pub fn no_costs_begin_law()
+    ensures { NoCostsBeginLaw }
 {}
 
 /// The next node may be begun where a run on a node has led.
@@ -47,9 +47,24 @@ pub fn next_law()
     ensures { NextLaw }
 {}
 
-/// What the vertex of a node and its multipliers mean for the deck.
+/// A run leaves the costs that the board takes.
+pub fn same_costs_law()
+    ensures { SameCostsLaw }
+{}
+
+/// What the vertex of a node and its multipliers mean for the deck, where the board takes the given costs.
 pub fn vertex_law()
     ensures { VertexLaw }
+{}
+
+/// What they mean whichever costs the board takes.
+pub fn held_law()
+    ensures { HeldLaw }
+{}
+
+/// Without costs the multipliers of a vertex are 1 and none.
+pub fn no_costs_vertex_law()
+    ensures { NoCostsVertexLaw }
 {}
 
 /// What the multipliers of a node without a point mean for the deck.

@@ -7,7 +7,7 @@
 //! on: that the next node may begin there, what a vertex and its multipliers mean for the deck, and when a
 //! point of a box is feasible.
 //!
-//! For now of decks without arcs, whose columns have two finite ends in the box.
+//! For now of decks without arcs. The ends of continuous columns may be infinite.
 #![tactic(auto)]
 
 pub mod laws;

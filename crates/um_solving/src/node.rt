@@ -1,6 +1,6 @@
 //! The relaxation of a node's box, solved on a board.
 
-ghost use Rattle.std.specs.Prelude.{◌≡◌, ◌-◌, ◌≤◌, [], IfOk};
+ghost use Rattle.std.specs.Prelude.{◌≡◌, ◌+◌, ◌-◌, ◌<◌, ◌≤◌, ◌^◌, [], IfOk};
 ghost use Rattle.um_duality.specs.Relaxed.{StandsFor, deck_frame};
 ghost use Rattle.um_lp.specs.Boards.{IsBoard};
 ghost use Rattle.um_lp.specs.DualSteps.{IsNext, Ended as HasEnded, NoPoint, IsDualFeasible};
@@ -11,7 +11,7 @@ ghost use Rattle.um_model.specs.WellFormed.{IsDeck};
 ghost use Rattle.um_relax.specs.Reboxings.{WantsFiniteEnds};
 ghost use Rattle.um_relax.specs.Relaxations.{IsRelaxationOf};
 ghost use Rattle.um_solving.specs.Endings.{EndedAs, HasEndedAs, RefusedAs};
-ghost use Rattle.um_solving.specs.Solvings.{IsReady};
+ghost use Rattle.um_relax.specs.Runs.{IsReady};
 
 use std::alloc::Global;
 use um_box::NodeBox;
@@ -35,11 +35,12 @@ pub enum NodeEnd {
 /// Puts the ends of the node's box on the board, takes steps, and reads what they ended at.
 ///
 /// The board may be in any state that stands for the deck, as the node before left it. `number` is
-/// the node's, which the cause of a stop tells. Each pivot takes one from `left`. The error is want of
-/// memory.
+/// the node's, which the cause of a stop tells, and `early` how many pivots were made under it before.
+/// Each pivot takes one from `left`. The error is want of memory.
 pub fn solve_node<B: Board>(
     alloc: Global,
     number: u32,
+    early: u64,
     node: &NodeBox<'_>,
     relaxation: &mut Relaxation,
     board: &mut B,
@@ -53,15 +54,16 @@ pub fn solve_node<B: Board>(
     requires stands { StandsFor node.now.deck (B.state board.old) }
     requires full { ¬ IsVoid node.now.deck node.now.limits }
     requires wanted { WantsFiniteEnds node.now.deck node.now.limits (B.state board.old) }
+    requires few { early + left.old < 2 ^ 64 }
     ensures falls { left.new ≤ left.old }
     ensures same { relaxation.new ≡ relaxation.old }
-    ensures ending { IfOk result (λ end. EndedAs node.now.deck node.now.limits (B.state board.old) (left.old - left.new) left.old number end (B.state board.new)) }
+    ensures ending { IfOk result (λ end. EndedAs node.now.deck node.now.limits (B.state board.old) early (left.old - left.new) left.old number end (B.state board.new)) }
 {
     match rebox(relaxation, board, node) {
-        Reboxed::Done => run_steps(alloc, number, node, relaxation, board, left),
+        Reboxed::Done => run_steps(alloc, number, early, node, relaxation, board, left),
         Reboxed::Full(_) => unreachable!(),
         Reboxed::Wide(wide) => {
-            let step = 0;
+            let step = early;
             Ok(NodeEnd::Stopped(Why::Value { number, step, wide }, None))
         }
     }
@@ -71,6 +73,7 @@ pub fn solve_node<B: Board>(
 fn run_steps<B: Board>(
     alloc: Global,
     number: u32,
+    early: u64,
     node: &NodeBox<'_>,
     relaxation: &Relaxation,
     board: &mut B,
@@ -80,12 +83,13 @@ fn run_steps<B: Board>(
     requires frame { frame_of relaxation.now ≡ deck_frame node.now.deck }
     requires stands { StandsFor node.now.deck (B.state board.old) }
     requires feasible { IsDualFeasible (B.state board.old) }
+    requires few { early + left.old < 2 ^ 64 }
     ensures falls { left.new ≤ left.old }
-    ensures ending { (before : State) → IsReady node.now.deck node.now.limits before (B.state board.old) → IfOk result (λ end. EndedAs node.now.deck node.now.limits before (left.old - left.new) left.old number end (B.state board.new)) }
+    ensures ending { (before : State) → IsReady node.now.deck node.now.limits before (B.state board.old) → IfOk result (λ end. EndedAs node.now.deck node.now.limits before early (left.old - left.new) left.old number end (B.state board.new)) }
 {
     let most = *left;
     let ending = um_dual::solve(board, left);
-    let step = most - *left;
+    let step = early + (most - *left);
     match ending {
         Ended::Optimal => at_vertex(alloc, number, node, relaxation, board, step),
         Ended::NoPoint(row) => without_point(alloc, number, node, relaxation, board, row, step),

@@ -8,7 +8,7 @@ use Rattle.std.proofs.lemmas.List.{get_or_past, get_or-set_same}
 use Rattle.um_laws.proofs.Places.{item_at, item_of, below_or}
 use Rattle.um_laws.proofs.WholeLaws.{*ℤ-mono, *ℤ_comm}
 use Rattle.um_model.specs.Values.{DeckValue, ColumnValue, PointValue}
-use Rattle.um_model.specs.WellFormed.{IsDeck}
+use Rattle.um_model.specs.WellFormed.{IsDeck, HasTwoEnds}
 use Rattle.um_model.specs.Feasible.{part, Between, IsMultipleOf}
 use Rattle.um_model.specs.Boxes.{BoxValue, Ends, InBox, ends_at, ends_of, is_shut_out, free}
 use Rattle.um_model.specs.Branches.{FitsInt, FitsSemi, child, kind_of, threshold_in, threshold_of}
@@ -37,6 +37,12 @@ record IsBroken (k : Kind) (q x : ℤ) : Type 0 where
   kind : k ≡ Semi threshold
   nonzero : x ≢ pos 0
   below : (pos 1000 *ℤ x) <ℤ (threshold *ℤ q)
+
+integer_differs : (k : Kind) → k ≡ Integer → k ≢ Continuous
+integer_differs k is continuous = absurd (cc)
+
+semi_differs : (k : Kind) (threshold : ℤ) → k ≡ Semi threshold → k ≢ Continuous
+semi_differs k threshold is continuous = absurd (cc)
 
 same_threshold : (s t : ℤ) → Semi s ≡ Semi t → s ≡ t
 same_threshold s t e = cc
@@ -94,12 +100,12 @@ module _ (d : DeckValue) (b : BoxValue) (p : PointValue) (point : IsPointOf d b 
   between : Between (ends_of d b column).low (ends_of d b column).high p.den (pos 1000 *ℤ part p.parts column)
   between = point.holds.ends column inside
 
-  there : column < length b.ends
-  there = in_box b.ends column (subst (λ (o : Option ℤ). IsSome o) (low_kept (is_shut_out d b column) (ends_at b column)) (point.ends column inside).low)
+  there : HasTwoEnds (ends_of d b column).low (ends_of d b column).high → column < length b.ends
+  there two = in_box b.ends column (subst (λ (o : Option ℤ). IsSome o) (low_kept (is_shut_out d b column) (ends_at b column)) two.low)
 
-  -- where a box has these ends for the column, a point of it has its value between them
-  within : (e : Ends) → InBox d (record b { ends = slice_set b.ends column e }) p → Between e.low e.high p.den (pos 1000 *ℤ part p.parts column)
-  within e box = subst (λ (x : Ends). Between x.low x.high p.den (pos 1000 *ℤ part p.parts column)) (get_or-set_same b.ends column e free there) (box.ends column inside)
+  -- where a box has these ends for a column with two ends, a point of it has its value between them
+  within : HasTwoEnds (ends_of d b column).low (ends_of d b column).high → (e : Ends) → InBox d (record b { ends = slice_set b.ends column e }) p → Between e.low e.high p.den (pos 1000 *ℤ part p.parts column)
+  within two e box = subst (λ (x : Ends). Between x.low x.high p.den (pos 1000 *ℤ part p.parts column)) (get_or-set_same b.ends column e free (there two)) (box.ends column inside)
 
 -- ---- an integer column
 
@@ -113,24 +119,29 @@ module _ (d : DeckValue) (b : BoxValue) (p : PointValue) (point : IsPointOf d b 
   broken : ¬ IsMultipleOf p.den (part p.parts column)
   broken m = fails (λ _. m)
 
+  own_integer : item.0.kind ≡ Integer
+  own_integer = is_integer item.0.kind (IsMultipleOf p.den (part p.parts column)) fails
+
   kind : kind_of d column ≡ Some Integer
-  kind = ap (option_map (λ (c : ColumnValue). c.kind)) item.1 ∙ ap (λ (k : Kind). Some k) (is_integer item.0.kind (IsMultipleOf p.den (part p.parts column)) fails)
+  kind = ap (option_map (λ (c : ColumnValue). c.kind)) item.1 ∙ ap (λ (k : Kind). Some k) own_integer
+
+  two_ends : HasTwoEnds (ends_of d b column).low (ends_of d b column).high
+  two_ends = point.ends column item.0 item.1 (integer_differs item.0.kind own_integer)
 
   fits_integer : FitsInt d b column f
   fits_integer =
-      let lies = between d b p point column is.first.inside in
-      let ends = point.ends column is.first.inside in record {
+      let lies = between d b p point column is.first.inside in record {
         kind = kind;
-        low = end_and (ends_of d b column).low ends.low lies.above (low_below p.den (part p.parts column) f point.holds.den is.floor);
-        high = end_and (ends_of d b column).high ends.high lies.below (high_above p.den (part p.parts column) f point.holds.den is.floor broken);
+        low = end_and (ends_of d b column).low two_ends.low lies.above (low_below p.den (part p.parts column) f point.holds.den is.floor);
+        high = end_and (ends_of d b column).high two_ends.high lies.below (high_above p.den (part p.parts column) f point.holds.den is.floor broken);
       }
 
   outside_integer : (side : Side) → ¬ InBox d (child d b (Int column f) side) p
   outside_integer Left box =
-      let cut = within d b p point column is.first.inside (record { low = (ends_at b column).low; high = Some (pos 1000 *ℤ f) }) box in
+      let cut = within d b p point column is.first.inside two_ends (record { low = (ends_at b column).low; high = Some (pos 1000 *ℤ f) }) box in
       not_below p.den (part p.parts column) f point.holds.den is.floor broken (cut.below (pos 1000 *ℤ f) refl)
   outside_integer Right box =
-      let cut = within d b p point column is.first.inside (record { low = Some (pos 1000 *ℤ (f +ℤ pos 1)); high = (ends_at b column).high }) box in
+      let cut = within d b p point column is.first.inside two_ends (record { low = Some (pos 1000 *ℤ (f +ℤ pos 1)); high = (ends_at b column).high }) box in
       not_above p.den (part p.parts column) f point.holds.den is.floor (cut.above (pos 1000 *ℤ (f +ℤ pos 1)) refl)
 
 -- ---- a semicontinuous column
@@ -149,6 +160,9 @@ module _ (d : DeckValue) (b : BoxValue) (p : PointValue) (point : IsPointOf d b 
 
   own_kind : kind_of d column ≡ Some (Semi semi_broken.threshold)
   own_kind = ap (option_map (λ (c : ColumnValue). c.kind)) semi_item.1 ∙ ap (λ (k : Kind). Some k) semi_broken.kind
+
+  semi_ends : HasTwoEnds (ends_of d b column).low (ends_of d b column).high
+  semi_ends = point.ends column semi_item.0 semi_item.1 (semi_differs semi_item.0.kind semi_broken.threshold semi_broken.kind)
 
   own_threshold : threshold_of d column ≡ semi_broken.threshold
   own_threshold = ap threshold_in own_kind
@@ -174,17 +188,17 @@ module _ (d : DeckValue) (b : BoxValue) (p : PointValue) (point : IsPointOf d b 
     kind = own_kind ∙ ap (λ (t : ℤ). Some (Semi t)) (sym own_threshold);
     threshold = above_zero p.den (part p.parts column) (threshold_of d column) point.holds.den up (less_is_most (pos 1000 *ℤ part p.parts column) (threshold_of d column *ℤ p.den) less);
     low = low_is;
-    high = end_and (ends_of d b column).high (point.ends column is.first.inside).high lies.below (λ h le. above_zero p.den (part p.parts column) h point.holds.den up le);
+    high = end_and (ends_of d b column).high semi_ends.high lies.below (λ h le. above_zero p.den (part p.parts column) h point.holds.den up le);
   }
 
   outside_semi : (side : Side) → ¬ InBox d (child d b (OnSemi column) side) p
   outside_semi Left box =
-      let cut = within d b p point column is.first.inside (record { low = Some (pos 0); high = Some (pos 0) }) box in
+      let cut = within d b p point column is.first.inside semi_ends (record { low = Some (pos 0); high = Some (pos 0) }) box in
       let zero = cut.below (pos 0) refl in
       let one = up in
       omega (arith, ints, zero, one)
   outside_semi Right box =
-      let cut = within d b p point column is.first.inside (record { low = Some (threshold_of d column); high = (ends_at b column).high }) box in
+      let cut = within d b p point column is.first.inside semi_ends (record { low = Some (threshold_of d column); high = (ends_at b column).high }) box in
       not_both (pos 1000 *ℤ part p.parts column) (threshold_of d column *ℤ p.den) less (cut.above (threshold_of d column) refl)
 
 -- ---- a set

@@ -1,7 +1,8 @@
 -- Laws of the branch that a point asks for.
-use Rattle.std.specs.Prelude.{◌≡◌, ℕ, ◌<◌, pos, ◌≤ℤ◌, ◌↔◌, [], length}
-use Rattle.um_model.specs.Values.{DeckValue, PointValue}
-use Rattle.um_model.specs.WellFormed.{IsDeck, HasTwoEnds}
+use Rattle.std.specs.Prelude.{◌≡◌, ◌≢◌, ℕ, ◌<◌, pos, ◌≤ℤ◌, ◌↔◌, [], length}
+use Rattle.um_model.specs.Values.{DeckValue, ColumnValue, PointValue}
+use Rattle.um_model.specs.WellFormed.{AtPlace, IsDeck, HasTwoEnds}
+use Rattle.um_model.specs.declared.deck.Kind.TheVariants.{Continuous}
 use Rattle.um_model.specs.Feasible.{AllPlaces, RowHolds, EndsHold, IntegerHolds, SemiHolds, SetHolds, Feasible}
 use Rattle.um_model.specs.Boxes.{BoxValue, InBox, root, ends_of}
 use Rattle.um_model.specs.Branches.{Fits, child}
@@ -23,11 +24,11 @@ pub record CutsOff (d : DeckValue) (b : BoxValue) (p : PointValue) (branch : Bra
 abbrev pub SplitLaw : Type 0
 SplitLaw = (d : DeckValue) (b : BoxValue) (set : ℕ) (p : PointValue) (branch : Branch) → IsDeck d → KeepsInterval d b set p → IsAverageSplit d set p branch → CutsOff d b p branch
 
--- the point lies within the ends of the box and keeps the intervals of its sets; each column has two finite ends in the box, and each semicontinuous one the low end 0 or its threshold
+-- the point lies within the ends of the box and keeps the intervals of its sets; each integer and semicontinuous column has two finite ends in the box, and each semicontinuous one the low end 0 or its threshold
 pub record IsPointOf (d : DeckValue) (b : BoxValue) (p : PointValue) : Type 0 where
   pub holds : HoldsOnBox d b p
   pub intervals : KeepsIntervals d b p
-  pub ends : (column : ℕ) → column < length d.columns → HasTwoEnds (ends_of d b column).low (ends_of d b column).high
+  pub ends : (column : ℕ) (c : ColumnValue) → AtPlace d.columns column c → c.kind ≢ Continuous → HasTwoEnds (ends_of d b column).low (ends_of d b column).high
   pub lows : HasSemiLows d b
 
 -- The branch that such a point asks for fits the box, and the point lies in neither child.

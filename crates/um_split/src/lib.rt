@@ -6,7 +6,8 @@
 //! there is none of those, the first set whose rule fails, at its average split. [`split`] is that of one
 //! set: the average is the mean of the weights of the set's members, each weighed by its member's part, and
 //! the set is cut at the last position whose weight is at most the average. A caller may rest on this: the
-//! branch fits the box, and the point lies in neither child, so each branch takes the point away.
+//! branch fits the box, and the point lies in neither child, so each branch takes the point away. The ends of
+//! continuous columns may be infinite.
 //!
 //! A value at its threshold keeps the column's rule, and a threshold of 0 is never broken. Averages are not
 //! divided out, and the sums fit 128 bits for points whose denominator and parts are below 2^36 in size. A

@@ -10,12 +10,12 @@ without_point-requires-clause-stands g c = steps_stand c.args.node.now.deck (c.a
 
 pub returns-in-Optimal-clause-ending : goal.returns-in-Optimal-clause-ending
 returns-in-Optimal-clause-ending g c before ready =
-    ended_of c.args.node.now.deck c.args.node.now.limits before (c.args.left.now - c.solve-ending.new.left) c.args.left.now c.args.number (g.B.Board.state c.args.board.now) (g.B.Board.state c.solve-ending.new.board) c.at_vertex.result c.at_vertex.ensures ready
+    ended_of c.args.node.now.deck c.args.node.now.limits before c.args.early (c.args.left.now - c.solve-ending.new.left) c.args.left.now c.args.number (g.B.Board.state c.args.board.now) (g.B.Board.state c.solve-ending.new.board) c.at_vertex.result c.at_vertex.ensures ready
     c.solve-ending.ensures.steps (g.met.B.Board.belongs c.solve-ending.new.board) c.solve-ending.ensures.feasible
 
 pub returns-in-NoPoint-clause-ending : goal.returns-in-NoPoint-clause-ending
 returns-in-NoPoint-clause-ending g c before ready =
-    ended_of c.args.node.now.deck c.args.node.now.limits before (c.args.left.now - c.solve-ending.new.left) c.args.left.now c.args.number (g.B.Board.state c.args.board.now) (g.B.Board.state c.solve-ending.new.board) c.without_point.result c.without_point.ensures ready
+    ended_of c.args.node.now.deck c.args.node.now.limits before c.args.early (c.args.left.now - c.solve-ending.new.left) c.args.left.now c.args.number (g.B.Board.state c.args.board.now) (g.B.Board.state c.solve-ending.new.board) c.without_point.result c.without_point.ensures ready
     c.solve-ending.ensures.steps (g.met.B.Board.belongs c.solve-ending.new.board) c.solve-ending.ensures.feasible
 
 pub returns-in-OutOfPivots-clause-ending : goal.returns-in-OutOfPivots-clause-ending

@@ -1,0 +1,5 @@
+use Rattle.um_solving.proofs.Runs.{same-costs-law}
+use Rattle.um_solving.proofs.laws.same_costs_law.Goals as goal
+
+pub returns : goal.returns
+returns c = same-costs-law
