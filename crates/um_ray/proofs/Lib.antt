@@ -1,0 +1,9 @@
+pub mod LargeRays
+pub mod MovingEnds
+pub mod Points
+pub mod Rays
+pub mod ReadEnds
+pub mod Sides
+pub mod Slopes
+pub mod StartRuns
+pub mod Values

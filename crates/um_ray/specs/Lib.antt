@@ -1,0 +1,4 @@
+pub mod Directions
+pub mod Laws
+pub mod Rays
+pub mod Starts
