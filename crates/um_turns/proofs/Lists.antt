@@ -1,5 +1,5 @@
 -- Lists with one item more, and what holds of each item.
-use Rattle.std.proofs.Common.{◌≡◌, ℕ, zero, suc, ◌<◌, ◌⊎◌, inl, inr, List, [], ◌∷◌, ◌++◌, length, slice_get, Some, refl, ap, arith}
+use Rattle.std.proofs.Common.{◌≡◌, ℕ, zero, suc, ◌<◌, ◌⊎◌, inl, inr, List, [], ◌∷◌, ◌++◌, length, slice_get, Some, refl, ap, subst, arith}
 use Rattle.um_progress.specs.Waits.{Every}
 
 -- ---- places
@@ -48,3 +48,9 @@ every_out P (y ∷ ys) behind x e = let r = every_out P ys behind x e.1 in (r.0,
 pub every_place : {X : Type 0} (P : X → Type 0) (xs : List X) → ((place : ℕ) (x : X) → slice_get xs place ≡ Some x → P x) → Every P xs
 every_place P [] f = tt
 every_place P (x ∷ xs) f = (f 0 x refl, every_place P xs (λ place y e. f (suc place) y e))
+
+-- and what holds of each item holds of the one at a place
+pub every_at : {X : Type 0} (P : X → Type 0) (xs : List X) (place : ℕ) (x : X) → Every P xs → slice_get xs place ≡ Some x → P x
+every_at P [] place x e at = absurd (cc)
+every_at P (y ∷ ys) zero x e at = let same : y ≡ x = cc in subst P same e.0
+every_at P (y ∷ ys) (suc place) x e at = every_at P ys place x e.1 at

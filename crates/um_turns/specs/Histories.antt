@@ -1,5 +1,5 @@
 -- The history of a search: its turns, in the order of their numbers.
-use Rattle.std.specs.Prelude.{◌≡◌, ℕ, suc, ◌+◌, ◌-◌, ◌<◌, ◌≤◌, pos, List, [], ◌∷◌, slice_get, Option, Some, None}
+use Rattle.std.specs.Prelude.{◌≡◌, ℕ, suc, ◌+◌, ◌-◌, ◌<◌, ◌≤◌, ℤ, pos, List, [], ◌∷◌, slice_get, Option, Some, None}
 use Rattle.std.specs.Option.{ForSome}
 use Rattle.um_laws.specs.Rational.{Rational}
 use Rattle.um_multipliers.specs.PlainMultipliers.{MultipliersValue, plain_multipliers}
@@ -42,6 +42,11 @@ left_behind left (n ∷ ns) = left_behind (left - n.pivots) ns
 abbrev pub pivots_of : History → ℕ
 pivots_of [] = 0
 pivots_of (n ∷ ns) = n.pivots + pivots_of ns
+
+-- the ray that a turn has shown, if one has; only the first turn opens the board, and so only that can
+abbrev pub ray_of : History → Option (List ℤ)
+ray_of [] = None
+ray_of (n ∷ ns) = n.told.ray
 
 -- ---- the tree
 

@@ -1,5 +1,5 @@
 -- What each act of a search keeps of its history.
-use Rattle.std.specs.Prelude.{◌≡◌, ℕ, suc, ◌+◌, ◌-◌, ◌<◌, ℤ, pos, Bool, List, [], ◌∷◌, ◌++◌, length, Option, Some, None, IfSome}
+use Rattle.std.specs.Prelude.{◌≡◌, ◌≢◌, ℕ, suc, ◌+◌, ◌-◌, ◌<◌, ◌≤◌, ℤ, pos, Bool, List, [], ◌∷◌, ◌++◌, length, Option, Some, None, IfSome}
 use Rattle.um_laws.specs.Rational.{Rational}
 use Rattle.um_num.specs.Fractions.{IsBelow}
 use Rattle.um_multipliers.specs.PlainMultipliers.{MultipliersValue, plain_multipliers}
@@ -16,8 +16,12 @@ use Rattle.um_model.specs.declared.branch.Branch.{Branch}
 use Rattle.um_model.specs.declared.tree.Solved.{Solved}
 use Rattle.um_lp.specs.States.{State}
 use Rattle.um_lp.specs.Boards.{IsBoard, IsStart}
+use Rattle.um_lp.specs.declared.board.Costs.TheVariants.{Given}
+use Rattle.um_duality.specs.Laws.{HoldsOnBox}
 use Rattle.um_duality.specs.Relaxed.{deck_frame}
-use Rattle.um_solving.specs.Laws.{HasEnds, MayBegin, VertexSays}
+use Rattle.um_solving.specs.Laws.{VertexSays}
+use Rattle.um_opening.specs.Openings.{ShowsRay}
+use Rattle.um_opening.specs.Numbers.{MayGoOn}
 use Rattle.um_solving.specs.RootBoxes.{IsWithinRoot}
 use Rattle.um_split.specs.Branchings.{IsBranchOf, AsksForNone}
 use Rattle.um_split.specs.Laws.{IsPointOf}
@@ -28,12 +32,12 @@ use Rattle.um_cover.specs.Sites.{box_at}
 use Rattle.um_nodes.specs.Taking.{IsTaken}
 use Rattle.um_nodes.specs.declared.open_nodes.OpenNode.{OpenNode}
 use Rattle.um_progress.specs.declared.incumbent.Incumbent.{Incumbent}
-use Rattle.um_progress.specs.Numbers.{Number}
+use Rattle.um_progress.specs.Numbers.{Number, IsNumbered}
 use Rattle.um_progress.specs.Searches.{IsSearch, ChildIs, objective_of}
 use Rattle.um_progress.specs.Stops.{IsStopping}
 use Rattle.um_progress.specs.Ends.{rooted}
 use Rattle.um_turns.specs.Turns.{Turn, Reached, Became, IsFinished}
-use Rattle.um_turns.specs.Histories.{History, IsHistory, IsHanded, AreHanded, AreFinished, IsBest, AreChained, state_behind, left_behind, pivots_of}
+use Rattle.um_turns.specs.Histories.{History, IsHistory, IsHanded, AreHanded, AreFinished, IsBest, AreChained, state_behind, left_behind, pivots_of, ray_of}
 use Rattle.um_turns.specs.NextTurns.{IsNextTurn, AreUnder, IsNoBetter}
 
 -- ---- the acts
@@ -109,9 +113,27 @@ OrderLaw = (x y : Rational) → (IsBelow x y → ¬ IsAtMost y x) × (¬ IsBelow
 
 -- ---- what a search goes on with
 
--- Where each turn is finished, the next node may be begun on the board behind them.
+-- Where each turn is finished, the next number may be solved on the board behind them.
 abbrev pub GoingOnLaw : Type 0
-GoingOnLaw = (d : DeckValue) (start : State) (most : ℕ) (g : GrowthValue) (history : History) → IsHistory d start most g history → AreFinished history → MayBegin d (state_behind start history)
+GoingOnLaw =
+    (d : DeckValue) (start : State) (most : ℕ) (g : GrowthValue) (history : History) → IsDeck d → d.arcs ≡ [] → IsGrowth g → SplitsFit d g → IsNumbered Turn g history → IsHistory d start most g history → AreFinished history
+    → MayGoOn d (suc (length history)) (state_behind start history)
+
+-- Where no turn has shown a ray and there is one, the board behind them takes the given costs.
+abbrev pub GoingCostsLaw : Type 0
+GoingCostsLaw =
+    (d : DeckValue) (start : State) (most : ℕ) (g : GrowthValue) (history : History) → IsDeck d → d.arcs ≡ [] → IsGrowth g → SplitsFit d g → IsNumbered Turn g history → IsHistory d start most g history → AreFinished history
+    → ray_of history ≡ None → history ≢ [] → (state_behind start history).costs ≡ Given
+
+-- the start problem on the board that starts has shown this ray, within so many pivots
+pub record HasShown (d : DeckValue) (start : State) (most : ℕ) (ray : List ℤ) : Type 0 where
+  pub pivots : ℕ
+  pub within : pivots ≤ most
+  pub shows : ShowsRay d start pivots ray
+
+-- The ray of a history with finished turns was shown by the start problem on the board that starts.
+abbrev pub ShownLaw : Type 0
+ShownLaw = (d : DeckValue) (start : State) (most : ℕ) (g : GrowthValue) (history : History) (ray : List ℤ) → IsHistory d start most g history → AreFinished history → ray_of history ≡ Some ray → HasShown d start most ray
 
 -- The multipliers of a vertex close its node at each value that is at most the objective of the vertex: a node with a feasible vertex is closed.
 abbrev pub VertexClosesLaw : Type 0
@@ -129,13 +151,11 @@ SemiLowsLaw = (d : DeckValue) (g : GrowthValue) (id : ℕ) → IsDeck d → d.ar
 
 -- ---- the vertices of a tree
 
--- A vertex of a node's box with two finite ends for each column is a point of the box, so that the branch that it asks for cuts it off.
+-- A vertex of a node's box is a point of the box, so that the branch that it asks for cuts it off.
 abbrev pub VertexPointLaw : Type 0
 VertexPointLaw =
-    (d : DeckValue) (g : GrowthValue) (id : ℕ) (p : PointValue) (y : MultipliersValue)
-    → IsDeck d → d.arcs ≡ [] → IsGrowth g → SplitsFit d g → id < length g.nodes → HasEnds d (box_at d g id) → VertexSays d (box_at d g id) p y → IsPointOf d (box_at d g id) p
+    (d : DeckValue) (g : GrowthValue) (id : ℕ) (p : PointValue) → IsDeck d → d.arcs ≡ [] → IsGrowth g → SplitsFit d g → id < length g.nodes → HoldsOnBox d (box_at d g id) p → IsPointOf d (box_at d g id) p
 
 -- A vertex of a node that asks for no branch is feasible.
 abbrev pub FeasibleVertexLaw : Type 0
-FeasibleVertexLaw =
-    (d : DeckValue) (g : GrowthValue) (id : ℕ) (p : PointValue) (y : MultipliersValue) → IsDeck d → IsGrowth g → SplitsFit d g → id < length g.nodes → VertexSays d (box_at d g id) p y → AsksForNone d p → Feasible d p
+FeasibleVertexLaw = (d : DeckValue) (g : GrowthValue) (id : ℕ) (p : PointValue) → IsDeck d → IsGrowth g → SplitsFit d g → id < length g.nodes → HoldsOnBox d (box_at d g id) p → AsksForNone d p → Feasible d p

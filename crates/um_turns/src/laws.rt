@@ -13,6 +13,8 @@ ghost use Rattle.um_turns.specs.Laws.{
   NewBestLaw,
   OrderLaw,
   GoingOnLaw,
+  GoingCostsLaw,
+  ShownLaw,
   VertexClosesLaw,
   BoxWithinLaw,
   SemiLowsLaw,
@@ -75,9 +77,19 @@ pub fn order_law()
     ensures { OrderLaw }
 {}
 
-/// The next node may be begun where each turn is finished.
+/// The next number may be solved where each turn is finished.
 pub fn going_on_law()
     ensures { GoingOnLaw }
+{}
+
+/// The board takes the given costs where no turn has shown a ray.
+pub fn going_costs_law()
+    ensures { GoingCostsLaw }
+{}
+
+/// The ray of a history was shown by the start problem.
+pub fn shown_law()
+    ensures { ShownLaw }
 {}
 
 /// The multipliers of a vertex close its node at the objective of the vertex.
