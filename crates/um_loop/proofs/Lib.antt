@@ -15,3 +15,4 @@ pub mod EndedNodes
 pub mod GridStops
 pub mod Settled
 pub mod Goes
+pub mod KeptRays

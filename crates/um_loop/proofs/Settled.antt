@@ -1,6 +1,7 @@
 -- A node in hand that is closed or solved, and how the search goes on.
 use Rattle.std.proofs.Common.{◌≡◌, ℕ, suc, ◌+◌, ◌-◌, ◌<◌, ◌≤◌, ◌^◌, pos, ◌<ℤ◌, List, [], ◌∷◌, ◌++◌, length, Option, Some, None, refl, sym, ap, ◌∙◌, subst, arith, length-append}
-use Rattle.std.specs.Prelude.{IsSome}
+use Rattle.std.specs.Prelude.{ℤ, IsSome, IsNone}
+use Rattle.um_num.specs.Listed.{Listed}
 use Rattle.um_laws.specs.Rational.{Rational}
 use Rattle.um_multipliers.specs.PlainMultipliers.{MultipliersValue, plain_multipliers}
 use Rattle.um_multipliers.specs.Sizes.{AreBelow}
@@ -33,7 +34,8 @@ use Rattle.um_progress.proofs.Parting.{part_act}
 use Rattle.um_split.specs.Branchings.{IsBranchOf}
 use Rattle.um_children.specs.NewChildren.{IsHanded}
 use Rattle.um_turns.specs.Turns.{Turn, TurnEnd, Reached, Halted, EndHolds, Became, IsFinished, kept_multipliers}
-use Rattle.um_turns.specs.Histories.{History, HasVertex, IsHanded as IsHandedBy, IsBest, left_behind}
+use Rattle.um_opening.specs.Numbers.{parts_of}
+use Rattle.um_turns.specs.Histories.{History, HasVertex, IsHanded as IsHandedBy, IsBest, left_behind, ray_of}
 use Rattle.um_turns.specs.NextTurns.{IsNextTurn}
 use Rattle.um_turns.proofs.Chains.{state_more, left_more}
 use Rattle.um_turns.proofs.Lists.{every_more}
@@ -41,7 +43,7 @@ use Rattle.um_turns.proofs.Turning.{settle_history, settle_turn, part_turn}
 use Rattle.um_turns.proofs.Waiting.{all_handed_more, part_handed}
 use Rattle.um_loop.specs.declared.search.Search.{Search}
 use Rattle.um_loop.specs.declared.search.Halt.{Halt}
-use Rattle.um_loop.specs.Goings.{IsKeyOf, IsGoing, HasTaken, HaltedAt}
+use Rattle.um_loop.specs.Goings.{IsKeyOf, IsGoing, HasTaken, HaltedAt, ray_with}
 use Rattle.um_loop.specs.NeededTurns.{IsOpenBefore, IsNeeded}
 use Rattle.um_loop.specs.Steps.{IsClosing, IsNotClosing, HasClosed, HasOwn}
 use Rattle.um_loop.proofs.ChildParts.{handed_under}
@@ -58,6 +60,15 @@ settles_leaf d b (Bounded y) least after h = tt
 settles_leaf d b (Empty y) least after h = tt
 settles_leaf d b (Void column) least after h = tt
 settles_leaf d b (OpenLeaf y) least after h = tt
+
+-- the ray of a history with one turn more
+pub ray_more : (history : History) (n : Number Turn) → ray_of (history ++ n ∷ []) ≡ ray_with history n.told.ray
+ray_more [] n = refl
+ray_more (m ∷ ms) n = refl
+
+pub some_kept : (r : Option (Listed ℤ)) (parts : Option (List ℤ)) → parts_of r ≡ parts → IsSome parts → IsSome r
+some_kept None parts e some = absurd (cc)
+some_kept (Some x) parts e some = refl
 
 -- with this number
 next_number : (solved : Solved) (what : WhatValue) (number : ℕ) → solved.number ≡ number → (n : ℕ) → number_of (record { solved = Some solved; what = what }) ≡ Some n → n ≡ number
@@ -94,6 +105,8 @@ module _ (d : DeckValue) (start : State) (most : ℕ) (taken : OpenNode) (s : Se
         board_is = t.going.board_is;
         left_is = t.going.left_is;
         found = λ some. refl;
+        ray_is = t.going.ray_is;
+        no_best = t.going.no_best;
       })
 
   -- ---- it keeps its own multipliers
@@ -111,9 +124,10 @@ module _ (d : DeckValue) (start : State) (most : ℕ) (taken : OpenNode) (s : Se
   pub own_key : (w : OpenNode) (y : MultipliersValue) → HasOwn d box taken y w → IsKeyOf s.growth w
   own_key w y own = record { id_is = own.key_id ∙ t.key.id_is ∙ sym own.node_is; depth_is = own.key_depth ∙ t.key.depth_is ∙ ap (λ (j : ℕ). length (way s.growth j)) (sym own.node_is) }
 
-  module _ (pivots : ℕ) (after : State) (end : TurnEnd) where
+  -- `shown` is the ray that the turn has shown, and `kept` the search's own behind it
+  module _ (pivots : ℕ) (after : State) (end : TurnEnd) (shown : Option (List ℤ)) (kept : Option (Listed ℤ)) where
     abbrev turn : Turn
-    turn = record { before = board; after = after; left = left; handed = handed; end = end }
+    turn = record { before = board; after = after; left = left; ray = shown; handed = handed; end = end }
 
     abbrev number : Number Turn
     number = record { id = taken.node; pivots = pivots; told = turn }
@@ -124,7 +138,7 @@ module _ (d : DeckValue) (start : State) (most : ℕ) (taken : OpenNode) (s : Se
     abbrev counted : Solved
     counted = record { number = suc (length history); pivots = pivots }
 
-    module _ (within : pivots ≤ left) (run : EndHolds d box turn pivots (suc (length history)) end) (still : IsNotClosing d s.incumbent taken.key) where
+    module _ (within : pivots ≤ left) (run : EndHolds d box turn pivots (suc (length history)) end) (still : IsNotClosing d s.incumbent taken.key) (kept_is : parts_of kept ≡ ray_with history shown) where
       next : IsNextTurn d start most s.growth history taken.node number
       next = record { at = refl; before = t.going.board_is; left = t.going.left_is; few = subst (λ (n : ℕ). pivots ≤ n) t.going.left_is within; run = run; handed = t.handed }
 
@@ -138,9 +152,9 @@ module _ (d : DeckValue) (start : State) (most : ℕ) (taken : OpenNode) (s : Se
       handed_open = λ k p before here feasible. none_closes d history s.incumbent box handed taken.key t.going.best t.waits.key still k p here feasible
 
       -- ---- the search stops, and the node stays in hand
-      pub halts : (halt : Halt) (own : Option MultipliersValue) → end ≡ Halted halt.why own → halt.hand.node ≡ taken.node → halt.solved ≡ Some counted → s.solved < 100000 → WaitsIn d s.growth halt.hand → IsKeyOf s.growth halt.hand → plain_multipliers halt.hand.y ≡ kept_multipliers handed own
-          → HaltedAt d start most (record s { solved = s.solved + 1 }) halt after (left - pivots)
-      halts halt own end_is node_is solved few waits hand_key kept = record {
+      pub halts : (halt : Halt) (own : Option MultipliersValue) → (IsSome kept → IsNone s.incumbent) → end ≡ Halted halt.why own → halt.hand.node ≡ taken.node → halt.solved ≡ Some counted → s.solved < 100000 → WaitsIn d s.growth halt.hand → IsKeyOf s.growth halt.hand → plain_multipliers halt.hand.y ≡ kept_multipliers handed own
+          → HaltedAt d start most (record s { solved = s.solved + 1; ray = kept }) halt after (left - pivots)
+      halts halt own no_best end_is node_is solved few waits hand_key keeps = record {
         history = history;
         search = subst (λ (id : ℕ). IsSearch Turn d (pos 0) history (Some id) s.growth s.open s.incumbent s.least) (sym node_is) t.going.search;
         told = t.going.told;
@@ -167,13 +181,14 @@ module _ (d : DeckValue) (start : State) (most : ℕ) (taken : OpenNode) (s : Se
         handed_is = subst (λ (id : ℕ). IsHandedBy history (origin_at s.growth id) handed) (sym node_is) t.handed;
         waits = waits;
         hand_key = hand_key;
-        kept = kept;
+        kept = keeps;
         board_is = refl;
         rest_is = refl;
+        no_best = λ some. no_best (some_kept kept (ray_with history shown) kept_is some);
       }
 
       -- ---- the search goes on
-      module _ (solved : Solved) (solved_is : solved ≡ counted) (best : Option Incumbent) (searching : IsSearch Turn d (pos 0) history (Some taken.node) s.growth s.open best s.least) (bests : IsBest d longer best) (finished : IsFinished end) where
+      module _ (solved : Solved) (solved_is : solved ≡ counted) (best : Option Incumbent) (searching : IsSearch Turn d (pos 0) history (Some taken.node) s.growth s.open best s.least) (bests : IsBest d longer best) (finished : IsFinished end) (no_best : IsSome kept → IsNone best) where
         -- as a leaf
         leaf_needed : (what : WhatValue) (least : Option Rational) → Settles d box what s.least least → IsNeeded d (settled s.growth taken.node (record { solved = Some solved; what = what })) longer (length history) number
         leaf_needed what least settles =
@@ -184,7 +199,7 @@ module _ (d : DeckValue) (start : State) (most : ℕ) (taken : OpenNode) (s : Se
             }
 
         pub leaf_goes : (what : WhatValue) (least : Option Rational) → NodeIs d (objective_of best) (pos 0) box what → Settles d box what s.least least → Became d handed end what → (IsSome best → IsSome least)
-            → IsGoing d start most None (record s { growth = settled s.growth taken.node (record { solved = Some solved; what = what }); incumbent = best; least = least; solved = s.solved + 1 }) after (left - pivots)
+            → IsGoing d start most None (record s { growth = settled s.growth taken.node (record { solved = Some solved; what = what }); incumbent = best; least = least; solved = s.solved + 1; ray = kept }) after (left - pivots)
         leaf_goes what least holds settles became found =
             let node : NodeValue = record { solved = Some solved; what = what } in
             record {
@@ -202,6 +217,8 @@ module _ (d : DeckValue) (start : State) (most : ℕ) (taken : OpenNode) (s : Se
               board_is = sym (state_more start history number);
               left_is = rest_is;
               found = found;
+              ray_is = kept_is ∙ sym (ray_more history number);
+              no_best = no_best;
             }
 
         -- as a split
@@ -235,7 +252,7 @@ module _ (d : DeckValue) (start : State) (most : ℕ) (taken : OpenNode) (s : Se
                       (subst (IsOpenBefore d longer (suc (length history)) box) (same_vertex q z (sym end_is ∙ at)) (λ k v before here feasible. none_closing k v here feasible));
                 }
 
-            pub split_goes : IsGoing d start most None (record s { growth = parted s.growth taken.node (Some solved) branch l r; «open» = (s.open ++ more_left) ++ more_right; incumbent = best; solved = s.solved + 1 }) after (left - pivots)
+            pub split_goes : IsGoing d start most None (record s { growth = parted s.growth taken.node (Some solved) branch l r; «open» = (s.open ++ more_left) ++ more_right; incumbent = best; solved = s.solved + 1; ray = kept }) after (left - pivots)
             split_goes = record {
               history = longer;
               search = subst (λ (x : Solved). IsSearch Turn d (pos 0) longer None (parted s.growth taken.node (Some x) branch l r) ((s.open ++ more_left) ++ more_right) best s.least) (sym solved_is)
@@ -258,4 +275,6 @@ module _ (d : DeckValue) (start : State) (most : ℕ) (taken : OpenNode) (s : Se
               board_is = sym (state_more start history number);
               left_is = rest_is;
               found = found;
+              ray_is = kept_is ∙ sym (ray_more history number);
+              no_best = no_best;
             }

@@ -40,6 +40,8 @@ takes_going d start most s board left w after k g =
         board_is = g.board_is;
         left_is = g.left_is;
         found = g.found;
+        ray_is = g.ray_is;
+        no_best = g.no_best;
       };
       waits = taken.1;
       handed = handed.1;

@@ -1,21 +1,29 @@
 -- A search that goes on, or stopped early, with a history that no code keeps.
-use Rattle.std.specs.Prelude.{◌≡◌, ℕ, suc, ◌+◌, ◌-◌, ◌<◌, ◌≤◌, pos, ◌⊎◌, [], length, Option, Some, None, IsSome}
+use Rattle.std.specs.Prelude.{◌≡◌, ℕ, suc, ◌+◌, ◌-◌, ◌<◌, ◌≤◌, ℤ, pos, ◌⊎◌, List, [], ◌∷◌, length, Option, Some, None, IsSome, IsNone, option_map}
+use Rattle.um_num.specs.Listed.{Listed}
 use Rattle.um_multipliers.specs.PlainMultipliers.{MultipliersValue, plain_multipliers}
-use Rattle.um_model.specs.Values.{DeckValue}
+use Rattle.um_model.specs.Values.{DeckValue, PointValue, plain_point}
+use Rattle.um_model.specs.Feasible.{Feasible}
+use Rattle.um_model.specs.Accepted.{IsSmallPoint}
 use Rattle.um_model.specs.declared.answer.Why.{Why}
 use Rattle.um_model.specs.declared.answer.Why.TheVariants as why
 use Rattle.um_lp.specs.States.{State}
+use Rattle.um_lp.specs.Boards.{IsBoard, IsStart}
+use Rattle.um_duality.specs.Relaxed.{deck_frame}
 use Rattle.um_tree.specs.Growths.{GrowthValue, origin_at}
 use Rattle.um_cover.specs.Sites.{way, box_at}
 use Rattle.um_nodes.specs.declared.open_nodes.OpenNode.{OpenNode}
 use Rattle.um_progress.specs.Waits.{Every, WaitsIn}
 use Rattle.um_progress.specs.Searches.{IsSearch}
 use Rattle.um_progress.specs.Lineage.{IsLineage}
-use Rattle.um_solving.specs.Laws.{MayBegin}
+use Rattle.um_opening.specs.Numbers.{parts_of}
 use Rattle.um_turns.specs.Turns.{Turn, Halted, EndHolds, kept_multipliers}
-use Rattle.um_turns.specs.Histories.{History, IsHistory, AreFinished, AreHanded, IsHanded, IsBest, state_behind, left_behind}
+use Rattle.um_turns.specs.Histories.{History, IsHistory, AreFinished, AreHanded, IsHanded, IsBest, state_behind, left_behind, ray_of}
+use Rattle.um_turns.specs.Laws.{HasShown}
 use Rattle.um_loop.specs.declared.search.Search.{Search}
 use Rattle.um_loop.specs.declared.search.Halt.{Halt}
+use Rattle.um_loop.specs.declared.search.Ending.{Ending}
+use Rattle.um_loop.specs.declared.search.Ending.TheVariants as ending
 use Rattle.um_loop.specs.Steps.{IsNotClosing}
 use Rattle.um_loop.specs.UnnumberedNodes.{AreUnnumbered}
 use Rattle.um_loop.specs.NeededTurns.{IsOpenBefore, AreNeeded}
@@ -43,6 +51,8 @@ pub record IsKeyOf (g : GrowthValue) (w : OpenNode) : Type 0 where
 --   best: the best point is the first of least objective among the feasible vertices
 --   board_is, left_is: the board is in the state, and as many pivots are left, as behind the last turn
 --   found: a point is there only with a least bound
+--   ray_is: its ray is the one that the first turn has shown
+--   no_best: with a ray there is no best point, as the first feasible one ends the search
 pub record IsGoing (d : DeckValue) (start : State) (most : ℕ) (hand : Option ℕ) (s : Search) (board : State) (left : ℕ) : Type 0 where
   pub history : History
   pub search : IsSearch Turn d (pos 0) history hand s.growth s.open s.incumbent s.least
@@ -58,6 +68,8 @@ pub record IsGoing (d : DeckValue) (start : State) (most : ℕ) (hand : Option �
   pub board_is : board ≡ state_behind start history
   pub left_is : left ≡ left_behind most history
   pub found : IsSome s.incumbent → IsSome s.least
+  pub ray_is : parts_of s.ray ≡ ray_of history
+  pub no_best : IsSome s.ray → IsNone s.incumbent
 
 -- an entry was taken: its node is in hand, with the multipliers that it was handed, and its key is theirs, with the node's id and depth
 pub record HasTaken (d : DeckValue) (start : State) (most : ℕ) (taken : OpenNode) (s : Search) (board : State) (left : ℕ) : Type 0 where
@@ -81,6 +93,11 @@ pub record HasSpent (d : DeckValue) (start : State) (most nodes : ℕ) (s : Sear
   pub all : s.solved ≡ nodes
   pub open_still : IsNotClosing d s.incumbent halt.hand.key
 
+-- the ray that the turns before have shown, or what this one has shown if it is the first
+abbrev pub ray_with : History → Option (List ℤ) → Option (List ℤ)
+ray_with [] shown = shown
+ray_with (n ∷ ns) shown = n.told.ray
+
 -- The search stopped in the last turn, on the node in hand, which is open in the tree and has no number there yet. The history is that of the turns before.
 --   search, told, finished, handed, keys, unnumbered, lineage, needed, best, found: as of a search that goes on, with the node in hand
 --   solved: the last turn is counted, too; few: it is one of the first 100,000
@@ -95,6 +112,7 @@ pub record HasSpent (d : DeckValue) (start : State) (most nodes : ℕ) (s : Sear
 --   hand_key: the key has the node's id and depth
 --   kept: they are its own where they were read, else those that it was handed
 --   board_is, rest_is: the board is in the state, and as many pivots are left, as behind the last turn
+--   no_best: where a turn has shown a ray there is no best point
 pub record HaltedAt (d : DeckValue) (start : State) (most : ℕ) (s : Search) (halt : Halt) (board : State) (rest : ℕ) : Type 0 where
   pub history : History
   pub search : IsSearch Turn d (pos 0) history (Some halt.hand.node) s.growth s.open s.incumbent s.least
@@ -125,31 +143,54 @@ pub record HaltedAt (d : DeckValue) (start : State) (most : ℕ) (s : Search) (h
   pub kept : plain_multipliers halt.hand.y ≡ kept_multipliers turn.handed own
   pub board_is : board ≡ turn.after
   pub rest_is : rest ≡ turn.left - pivots
+  pub no_best : IsSome (ray_with history turn.ray) → IsNone s.incumbent
 
 -- the search stopped at the budget of nodes, or in a turn
 abbrev pub HasStopped : DeckValue → State → ℕ → ℕ → Search → Halt → State → ℕ → Type 0
 HasStopped d start most nodes s halt board left = HasSpent d start most nodes s halt board left ⊎ HaltedAt d start most s halt board left
 
+-- ---- a feasible point of a deck with a ray
+
+-- the start problem, on the board with which the search began, has shown the ray, and the point is feasible; its numbers are small
+pub record HasFound (d : DeckValue) (start : State) (most : ℕ) (s : Search) (p : PointValue) : Type 0 where
+  pub starts : IsStart (deck_frame d) start
+  pub board : IsBoard start
+  pub ray : Listed ℤ
+  pub ray_is : s.ray ≡ Some ray
+  pub shown : HasShown d start most ray.items
+  pub feasible : Feasible d p
+  pub small : IsSmallPoint p
+
 -- ---- a run of the loop
+
+-- a stop as the ending of a run
+abbrev pub ending_of : Option Halt → Option Ending
+ending_of halt = option_map (λ (h : Halt). ending.Halted h) halt
+
+-- the ending is not that of a limit of the grid
+abbrev pub IsNoGridEnding : Ending → Type 0
+IsNoGridEnding (ending.Halted halt) = IsNoGrid halt.why
+IsNoGridEnding (ending.Found point) = Unit {0}
 
 -- nothing waits
 pub record RanOut (d : DeckValue) (start : State) (most : ℕ) (s : Search) (board : State) (left : ℕ) : Type 0 where
   pub going : IsGoing d start most None s board left
   pub none : s.open ≡ []
 
--- where a run ended: nothing waits, or it stopped early
-abbrev pub HasRun : DeckValue → State → ℕ → ℕ → Option Halt → Search → State → ℕ → Type 0
+-- where a run ended: nothing waits, it stopped early, or it found a point of a deck with a ray
+abbrev pub HasRun : DeckValue → State → ℕ → ℕ → Option Ending → Search → State → ℕ → Type 0
 HasRun d start most nodes None s board left = RanOut d start most s board left
-HasRun d start most nodes (Some halt) s board left = HasStopped d start most nodes s halt board left
+HasRun d start most nodes (Some (ending.Halted halt)) s board left = HasStopped d start most nodes s halt board left
+HasRun d start most nodes (Some (ending.Found point)) s board left = HasFound d start most s (plain_point point)
 
--- a number was solved, at most two nodes more wait, and the next node may be begun
+-- a number was solved, and at most two nodes more wait
 pub record WentOn (d : DeckValue) (start : State) (most : ℕ) (before after : Search) (board : State) (left : ℕ) : Type 0 where
   pub going : IsGoing d start most None after board left
   pub solved : after.solved ≡ before.solved + 1
   pub waiting : length after.open ≤ length before.open + 2
-  pub begins : MayBegin d board
 
--- where the solving of a node led: the search goes on, or it stopped in this turn
-abbrev pub GoesOn : DeckValue → State → ℕ → Search → Option Halt → Search → State → ℕ → Type 0
+-- where the solving of a node led: the search goes on, it stopped in this turn, or it found a point
+abbrev pub GoesOn : DeckValue → State → ℕ → Search → Option Ending → Search → State → ℕ → Type 0
 GoesOn d start most before None after board left = WentOn d start most before after board left
-GoesOn d start most before (Some halt) after board left = HaltedAt d start most after halt board left
+GoesOn d start most before (Some (ending.Halted halt)) after board left = HaltedAt d start most after halt board left
+GoesOn d start most before (Some (ending.Found point)) after board left = HasFound d start most after (plain_point point)

@@ -1,6 +1,7 @@
 -- What each act changes of a search.
-use Rattle.std.specs.Prelude.{◌≡◌, ◌≢◌, ℕ, suc, ◌+◌, ◌<◌, ◌^◌, ℤ, pos, unsigned_abs, ◌⊎◌, List, ◌++◌, length, Option, Some, None, IsNone, IsSomeAnd, IfSome, option_map}
+use Rattle.std.specs.Prelude.{◌≡◌, ◌≢◌, ℕ, suc, ◌+◌, ◌<◌, ◌^◌, ℤ, pos, unsigned_abs, ◌⊎◌, List, ◌++◌, length, Option, Some, None, IsSome, IsNone, IsSomeAnd, IfSome, option_map}
 use Rattle.um_laws.specs.Rational.{Rational}
+use Rattle.um_num.specs.Listed.{Listed}
 use Rattle.um_multipliers.specs.PlainMultipliers.{MultipliersValue, plain_multipliers}
 use Rattle.um_model.specs.Values.{DeckValue, PointValue, plain_point}
 use Rattle.um_model.specs.Feasible.{Feasible}
@@ -13,10 +14,11 @@ use Rattle.um_model.specs.AnswerValues.{NodeValue, Bounded, Empty}
 use Rattle.um_model.specs.declared.answer.Why.{Why}
 use Rattle.um_model.specs.declared.answer.Why.TheVariants as why
 use Rattle.um_multipliers.specs.Sizes.{AreBelow}
-use Rattle.um_solving.specs.Laws.{VertexSays, EmptySays, OwnSays}
+use Rattle.um_solving.specs.Laws.{VertexSays, HeldSays, EmptySays, OwnSays}
 use Rattle.um_solving.specs.declared.node.NodeEnd.{NodeEnd}
 use Rattle.um_solving.specs.declared.node.NodeEnd.TheVariants as end
 use Rattle.um_model.specs.declared.branch.Branch.{Branch}
+use Rattle.um_model.specs.declared.point.Point.{Point}
 use Rattle.um_model.specs.declared.tree.Solved.{Solved}
 use Rattle.um_tree.specs.Growths.{parted, settled}
 use Rattle.um_nodes.specs.declared.open_nodes.Key.{Key}
@@ -29,6 +31,8 @@ use Rattle.um_split.specs.Branchings.{IsBranchOf, AsksForNone}
 use Rattle.um_split.specs.Laws.{IsPointOf}
 use Rattle.um_loop.specs.declared.search.Search.{Search}
 use Rattle.um_loop.specs.declared.search.Halt.{Halt}
+use Rattle.um_loop.specs.declared.search.Ending.{Ending}
+use Rattle.um_loop.specs.declared.search.Ending.TheVariants as ending
 
 -- ---- the best point
 
@@ -100,6 +104,14 @@ pub record HasBranched (d : DeckValue) (b : BoxValue) (before : Search) (id dept
   pub second_new : IsNewNode d (right d b branch) second
   pub after_is : after ≡ branched_search before id solved branch first second first_more second_more
 
+-- ---- the ray
+
+-- number 1 keeps the ray that was shown, if one was, and a later one leaves what is there
+pub record HasKeptRay (number : ℕ) (shown : Option (Listed ℤ)) (before after : Search) : Type 0 where
+  pub same : after ≡ record before { ray = after.ray }
+  pub first : number ≡ 1 → after.ray ≡ shown
+  pub later : number ≢ 1 → after.ray ≡ before.ray
+
 -- ---- a node that ended at a vertex
 
 -- the key closes the node at the best point
@@ -152,23 +164,28 @@ pub record AfterVertex (d : DeckValue) (b : BoxValue) (before : Search) (taken :
 
 -- ---- a node that ended
 
--- A vertex of a box, with its multipliers.
+-- A vertex of a box, with its multipliers, as it was read.
 --   small, below: their numbers are small
---   says: what they mean for the deck
+--   says: what they mean for the deck, whichever costs the board takes
 --   point: it is a point of the box, so that the branch that it asks for fits the box
 --   feasible: it is feasible where it asks for none
-pub record IsVertex (d : DeckValue) (b : BoxValue) (p : PointValue) (y : MultipliersValue) : Type 0 where
+pub record IsReadVertex (d : DeckValue) (b : BoxValue) (p : PointValue) (y : MultipliersValue) : Type 0 where
   pub small : IsSmallPoint p
   pub below : AreBelow (2 ^ 40) y
-  pub says : VertexSays d b p y
+  pub says : HeldSays d b p y
   pub point : IsPointOf d b p
   pub feasible : AsksForNone d p → Feasible d p
 
--- what is known of the numbers with which a node ended, from the run that they came from
-abbrev pub EndSays : DeckValue → BoxValue → NodeEnd → Type 0
-EndSays d b (end.Vertex point y) = IsVertex d b (plain_point point) (plain_multipliers y)
-EndSays d b (end.Empty y) = AreBelow (2 ^ 40) (plain_multipliers y) × EmptySays d b (plain_multipliers y)
-EndSays d b (end.Stopped cause own) = IfSome own (λ y. OwnSays d (plain_multipliers y))
+-- And where it is feasible, the bound of its multipliers is its objective. Without costs this is asked of vertices that are not feasible alone.
+pub record IsVertex (d : DeckValue) (b : BoxValue) (p : PointValue) (y : MultipliersValue) : Type 0 where
+  pub read : IsReadVertex d b p y
+  pub tight : Feasible d p → VertexSays d b p y
+
+-- what is known of the numbers with which a node ended, from the run that they came from; without a ray the board took the given costs
+abbrev pub EndSays : DeckValue → BoxValue → Option (Listed ℤ) → NodeEnd → Type 0
+EndSays d b ray (end.Vertex point y) = IsReadVertex d b (plain_point point) (plain_multipliers y) × (IsNone ray → VertexSays d b (plain_point point) (plain_multipliers y))
+EndSays d b ray (end.Empty y) = AreBelow (2 ^ 40) (plain_multipliers y) × EmptySays d b (plain_multipliers y)
+EndSays d b ray (end.Stopped cause own) = IfSome own (λ y. OwnSays d (plain_multipliers y))
 
 -- the node that was taken under these multipliers, which are its own; the key is theirs, with the id and the depth that the node had
 pub record HasOwn (d : DeckValue) (b : BoxValue) (taken : OpenNode) (y : MultipliersValue) (w : OpenNode) : Type 0 where
@@ -191,12 +208,31 @@ pub record HasStoppedAt (d : DeckValue) (b : BoxValue) (taken : OpenNode) (solve
   pub kept : IsKept d b taken own halt.hand
 
 -- the search stopped in the solving of the node, and nothing changed
-abbrev pub StoppedWith : DeckValue → BoxValue → Search → OpenNode → Solved → Why → Option MultipliersValue → Option Halt → Search → Type 0
+abbrev pub StoppedWith : DeckValue → BoxValue → Search → OpenNode → Solved → Why → Option MultipliersValue → Option Ending → Search → Type 0
 StoppedWith d b before taken solved cause own None after = ⊥
-StoppedWith d b before taken solved cause own (Some halt) after = HasStoppedAt d b taken solved cause own halt × (after ≡ before)
+StoppedWith d b before taken solved cause own (Some (ending.Halted halt)) after = HasStoppedAt d b taken solved cause own halt × (after ≡ before)
+StoppedWith d b before taken solved cause own (Some (ending.Found point)) after = ⊥
+
+-- the deck has a ray, and the vertex is feasible: it ends the search, and nothing changed
+pub record IsFoundVertex (d : DeckValue) (before : Search) (p : PointValue) (point : Point) (after : Search) : Type 0 where
+  pub ray : IsSome before.ray
+  pub feasible : Feasible d p
+  pub same : plain_point point ≡ p
+  pub after_is : after ≡ before
+
+-- without a ray, or where it is not feasible, the vertex is closed or branched, or stops the search
+pub record IsNoFound (d : DeckValue) (b : BoxValue) (before : Search) (taken : OpenNode) (solved : Solved) (p : PointValue) (y : MultipliersValue) (halt : Option Halt) (after : Search) : Type 0 where
+  pub not_found : IsSome before.ray → ¬ Feasible d p
+  pub led : AfterVertex d b before taken solved p y halt after
+
+-- what became of the search at a vertex
+abbrev pub VertexSettled : DeckValue → BoxValue → Search → OpenNode → Solved → PointValue → MultipliersValue → Option Ending → Search → Type 0
+VertexSettled d b before taken solved p y None after = IsNoFound d b before taken solved p y None after
+VertexSettled d b before taken solved p y (Some (ending.Halted halt)) after = IsNoFound d b before taken solved p y (Some halt) after
+VertexSettled d b before taken solved p y (Some (ending.Found point)) after = IsFoundVertex d before p point after
 
 -- what became of the search where the node in hand ended so
-abbrev pub HasSettled : DeckValue → BoxValue → Search → OpenNode → Solved → NodeEnd → Option Halt → Search → Type 0
-HasSettled d b before taken solved (end.Vertex point y) halt after = AfterVertex d b before taken solved (plain_point point) (plain_multipliers y) halt after
-HasSettled d b before taken solved (end.Empty y) halt after = IsNone halt × (after ≡ emptied_search before taken.node solved (plain_multipliers y))
-HasSettled d b before taken solved (end.Stopped cause own) halt after = StoppedWith d b before taken solved cause (option_map plain_multipliers own) halt after
+abbrev pub HasSettled : DeckValue → BoxValue → Search → OpenNode → Solved → NodeEnd → Option Ending → Search → Type 0
+HasSettled d b before taken solved (end.Vertex point y) led after = VertexSettled d b before taken solved (plain_point point) (plain_multipliers y) led after
+HasSettled d b before taken solved (end.Empty y) led after = IsNone led × (after ≡ emptied_search before taken.node solved (plain_multipliers y))
+HasSettled d b before taken solved (end.Stopped cause own) led after = StoppedWith d b before taken solved cause (option_map plain_multipliers own) led after

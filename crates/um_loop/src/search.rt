@@ -1,8 +1,8 @@
 //! A search between two acts.
 
-use um_model::{Solved, Why};
+use um_model::{Point, Solved, Why};
 use um_nodes::{OpenNode, OpenNodes};
-use um_num::Frac;
+use um_num::{Frac, List};
 use um_progress::Incumbent;
 use um_tree::Growth;
 
@@ -18,6 +18,18 @@ pub struct Search {
     pub least: Option<Frac>,
     /// How many nodes have a number, the one that is being solved too.
     pub solved: u32,
+    /// A ray of the deck, where the start has shown one: then the search looks for a feasible point alone,
+    /// on a board without costs.
+    pub ray: Option<List<i128>>,
+}
+
+/// Where a run of the loop ends while nodes may wait.
+#[derive(Debug, Drop)]
+pub enum Ending {
+    /// It stopped early.
+    Halted(Halt),
+    /// The deck has a ray, and this point is feasible: the objective has no end.
+    Found(Point),
 }
 
 /// An early stop: its cause, and the node in hand, which stays open, with the multipliers that it keeps.

@@ -28,7 +28,7 @@ returns c =
       asked = asked;
       asked_is = is;
       none_is = c.branch_of-asked.ensures.none.0;
-      fits = asked_fits d box p asked c.requires.formed.formed c.requires.vertex.point is;
+      fits = asked_fits d box p asked c.requires.formed.formed c.requires.vertex.read.point is;
       key = key;
       key_is = c.key_of-key.ensures.key;
       key_size = c.key_of-key.ensures.size;
@@ -39,7 +39,7 @@ returns c =
     c.settle_vertex.ensures
 
 pub settle_vertex-requires-clause-fits : goal.settle_vertex-requires-clause-fits
-settle_vertex-requires-clause-fits c = asked_fits c.args.deck.now c.args.node.now.limits (plain_point c.args.point) c.branch_of-asked.result c.requires.formed.formed c.requires.vertex.point c.branch_of-asked.ensures.branch
+settle_vertex-requires-clause-fits c = asked_fits c.args.deck.now c.args.node.now.limits (plain_point c.args.point) c.branch_of-asked.result c.requires.formed.formed c.requires.vertex.read.point c.branch_of-asked.ensures.branch
 
 pub settle_vertex-requires-clause-key_y0 : goal.settle_vertex-requires-clause-key_y0
-settle_vertex-requires-clause-key_y0 c = key_below (leaf_value c.args.deck.now c.args.node.now.limits (plain_multipliers c.args.y)) c.args.y.y0 c.key_of-key.result c.requires.vertex.below.y0 c.key_of-key.ensures.key
+settle_vertex-requires-clause-key_y0 c = key_below (leaf_value c.args.deck.now c.args.node.now.limits (plain_multipliers c.args.y)) c.args.y.y0 c.key_of-key.result c.requires.vertex.read.below.y0 c.key_of-key.ensures.key

@@ -13,7 +13,7 @@ use Rattle.um_loop.proofs.search.Search.run.Given as given
 use Rattle.um_loop.proofs.search.Search.run.Goals as goal
 use Rattle.um_loop.proofs.search.Search.run.Goals.{In-Some}
 
--- What the call requires stands clause in clause, behind a clause on lifetimes: .1.0 is `plain`, .1.1.0 `ends`, and so on.
+-- What the call requires stands clause in clause, behind a clause on lifetimes: .1.0 is `plain`, .1.1.0 `relaxed`, and so on.
 
 -- the node in hand was taken, and its multipliers are of rows of the deck in rising order
 taken_next : (g : given.Over) (c : In-Some g) → HasTaken c.args.deck.now g.began.start g.began.most c.in-Some.taken (record c.nodes.self { «open» = c.take.new.self }) (g.B.Board.state c.nodes.board) c.nodes.left
@@ -46,7 +46,6 @@ nodes-preserved-in-Some-closing g c =
     record {
       relaxed = old.relaxed;
       frame = old.frame;
-      begins = old.begins;
       going = closed_goes c.args.deck.now g.began.start g.began.most c.in-Some.taken (record c.nodes.self { «open» = c.take.new.self }) (g.B.Board.state c.nodes.board) c.nodes.left (taken_next g at) bound after c.in-Some-closing.ensures c.close.ensures;
       within = let same = keeps.1 in let few = old.within in omega (arith, same, few);
       checkable = keeps.0;
@@ -68,6 +67,6 @@ solve_next-requires g c =
     let old = c.nodes.invariant in
     let within = old.within in
     let other = c.if-self-nodes.false in
-    let budget = c.requires.1.1.1.1.1.1.1.0 in
+    let budget = c.requires.1.1.1.1.1.0 in
     let few : c.nodes.self.solved < 100000 = omega (arith, within, other, budget) in
-    λ lifetimes live. (live, (c.requires.1.0, (c.requires.1.1.0, (old.relaxed, (old.frame, (old.begins, ((taken_next g (goal.at.solve_next-requires g c).In-Some), (few, (old.checkable, c.in_default-closing.ensures)))))))))
+    λ lifetimes live. (live, (c.requires.1.0, (old.relaxed, (old.frame, ((taken_next g (goal.at.solve_next-requires g c).In-Some), (few, (old.checkable, c.in_default-closing.ensures)))))))

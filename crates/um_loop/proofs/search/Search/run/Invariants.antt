@@ -2,7 +2,6 @@ use Rattle.std.proofs.Common.{◌≡◌, ◌+◌, ◌*◌, ◌-◌, ◌≤◌, N
 use Rattle.um_duality.specs.Relaxed.{deck_frame}
 use Rattle.um_lp.specs.Relaxations.{frame_of}
 use Rattle.um_relax.specs.Relaxations.{IsRelaxationOf}
-use Rattle.um_solving.specs.Laws.{MayBegin}
 use Rattle.um_loop.specs.Checkables.{AreCheckable}
 use Rattle.um_loop.specs.Goings.{IsGoing}
 use Rattle.um_loop.proofs.search.Search.run.Given as goal
@@ -14,7 +13,6 @@ abbrev pub invariant-nodes : goal.invariant-nodes
 invariant-nodes g l = record {
   relaxed : IsRelaxationOf l.deck l.relaxation;
   frame : frame_of l.relaxation ≡ deck_frame l.deck;
-  begins : MayBegin l.deck (g.B.Board.state l.board);
   going : IsGoing l.deck g.began.start g.began.most None l.self (g.B.Board.state l.board) l.left;
   within : l.self.solved ≤ l.fn.nodes;
   checkable : AreCheckable l.deck l.self.growth;
