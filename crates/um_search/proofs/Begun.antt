@@ -81,7 +81,7 @@ module _ (d : DeckValue) (w : OpenNode) (full : ¬ IsVoid d (root d)) (own : pla
     search : IsSearch Turn d (pos 0) [] None (rooted y) (w ∷ []) None None
     search = begins Turn d (pos 0) y w (one_bounds d (root d) y full also) entry
 
-    going : IsGoing d start most None (record { growth = rooted y; «open» = w ∷ []; incumbent = None; least = None; solved = 0 }) start most
+    going : IsGoing d start most None (record { growth = rooted y; «open» = w ∷ []; incumbent = None; least = None; solved = 0; ray = None }) start most
     going = record {
       history = [];
       search = search;
@@ -97,12 +97,14 @@ module _ (d : DeckValue) (w : OpenNode) (full : ¬ IsVoid d (root d)) (own : pla
       board_is = refl;
       left_is = refl;
       found = λ e. absurd (cc);
+      ray_is = refl;
+      no_best = λ some. refl;
     }
 
-    pub began : (g : GrowthValue) (ws : List OpenNode) → g ≡ rooted y → ws ≡ w ∷ [] → IsGoing d start most None (record { growth = g; «open» = ws; incumbent = None; least = None; solved = 0 }) start most
+    pub began : (g : GrowthValue) (ws : List OpenNode) → g ≡ rooted y → ws ≡ w ∷ [] → IsGoing d start most None (record { growth = g; «open» = ws; incumbent = None; least = None; solved = 0; ray = None }) start most
     began g ws is waits =
-        subst (λ (x : GrowthValue). IsGoing d start most None (record { growth = x; «open» = ws; incumbent = None; least = None; solved = 0 }) start most) (sym is)
-        (subst (λ (xs : List OpenNode). IsGoing d start most None (record { growth = rooted y; «open» = xs; incumbent = None; least = None; solved = 0 }) start most) (sym waits) going)
+        subst (λ (x : GrowthValue). IsGoing d start most None (record { growth = x; «open» = ws; incumbent = None; least = None; solved = 0; ray = None }) start most) (sym is)
+        (subst (λ (xs : List OpenNode). IsGoing d start most None (record { growth = rooted y; «open» = xs; incumbent = None; least = None; solved = 0; ray = None }) start most) (sym waits) going)
 
 root_checkable : (d : DeckValue) (y : MultipliersValue) → y ≡ one → AreCheckable d (rooted y)
 root_checkable d y is zero h = none_rises d y is

@@ -1,6 +1,6 @@
 -- The answers of a search that is over, and of one that stopped: accepted, right, fit to be checked, and telling the search.
-use Rattle.std.proofs.Common.{◌≡◌, ℕ, zero, suc, ◌≤◌, pos, Bool, List, [], ◌∷◌, length, map, Option, Some, None, refl, sym, subst, arith}
-use Rattle.std.specs.Prelude.{All, IsSome, IfSome}
+use Rattle.std.proofs.Common.{◌≡◌, ℕ, zero, suc, ◌≤◌, pos, inl, Bool, List, [], ◌∷◌, length, map, Option, Some, None, refl, sym, subst, arith}
+use Rattle.std.specs.Prelude.{ℤ, All, IsSome, IsNone, IfSome}
 use Rattle.um_laws.specs.Rational.{Rational}
 use Rattle.um_model.specs.Values.{DeckValue, PointValue}
 use Rattle.um_model.specs.Boxes.{BoxValue}
@@ -9,7 +9,10 @@ use Rattle.um_model.specs.Accepted.{ToleranceHolds, IsAccepted}
 use Rattle.um_model.specs.AnswerValues.{AnswerValue, NodeValue, WhatValue, Split, Bounded, Empty, Void, OpenLeaf, kind_of_stop}
 use Rattle.um_model.specs.Checkable.{IsCheckable, IsCheckableWhat, IsCheckablePoint}
 use Rattle.um_model.specs.Right.{IsRight}
+use Rattle.um_model.specs.Rays.{Ray}
+use Rattle.um_opening.proofs.Begun.{shown-ray-law}
 use Rattle.um_model.specs.declared.answer.AnswerKind.{AnswerKind}
+use Rattle.um_model.specs.declared.answer.AnswerKind.TheVariants.{Optimal, Infeasible as HasNone, Unbounded, Limit, Overflow}
 use Rattle.um_model.specs.declared.answer.Why.{Why}
 use Rattle.um_model.specs.declared.answer.Why.TheVariants as why
 use Rattle.um_soundness.proofs.AcceptedTrees.{accepted-is-right-law}
@@ -26,13 +29,14 @@ use Rattle.um_progress.specs.Searches.{objective_of, IsIncumbent, IsBounded, IsS
 use Rattle.um_progress.specs.Stops.{bound_of, IsStopping}
 use Rattle.um_progress.proofs.Settling.{optimal_accepted, infeasible_accepted, stopped_accepted}
 use Rattle.um_turns.specs.Turns.{Turn}
-use Rattle.um_turns.specs.Histories.{History, IsHistory, AreFinished}
+use Rattle.um_turns.specs.Histories.{History, IsHistory, AreFinished, ray_of}
+use Rattle.um_loop.proofs.Settled.{some_kept}
 use Rattle.um_search.specs.declared.budget.Budget.{Budget}
 use Rattle.um_loop.specs.declared.search.Search.{Search}
 use Rattle.um_loop.specs.Goings.{IsNoGrid}
-use Rattle.um_search.specs.Told.{IsHaltedLast, IsEndedBy, HasSpentNodes, HasSpentPivots, TellsSearch}
+use Rattle.um_search.specs.Told.{IsHaltedLast, IsEndedBy, HasSpentNodes, HasSpentPivots, TellsSearch, TellsOf, TellsAnswer}
 use Rattle.um_loop.specs.Checkables.{AreCheckable}
-use Rattle.um_search.specs.Emptying.{IsOver, kind_of_over, AreHandedBut, HasHand, IsEmptying}
+use Rattle.um_search.specs.Emptying.{IsOver, IsFound, kind_of_over, AreHandedBut, HasHand, IsEmptying}
 use Rattle.um_turns.proofs.Chains.{pivots_all}
 use Rattle.um_search.proofs.SpentPivots.{pivots_spent}
 use Rattle.um_search.proofs.SpentNodes.{none_solved}
@@ -42,7 +46,35 @@ pub record AnswersFor (d : DeckValue) (budget : Budget) (a : AnswerValue) : Type
   pub accepted : IsAccepted d a
   pub right : IsRight d a
   pub checkable : IsCheckable d a
-  pub tells : TellsSearch d budget a
+  pub tells : TellsAnswer d budget a
+
+-- an answer of another kind than unbounded tells its search
+tells_search : (kind : AnswerKind) (d : DeckValue) (budget : Budget) (a : AnswerValue) → ¬ (kind ≡ Unbounded) → TellsSearch d budget a → TellsOf kind d budget a
+tells_search Optimal d budget a other h = h
+tells_search HasNone d budget a other h = h
+tells_search Unbounded d budget a other h = absurd (other refl)
+tells_search Limit d budget a other h = h
+tells_search Overflow d budget a other h = h
+
+over_kind : (i : Option Incumbent) → ¬ (kind_of_over i ≡ Unbounded)
+over_kind None e = absurd (cc)
+over_kind (Some i) e = absurd (cc)
+
+stop_kind : (w : Why) → ¬ (kind_of_stop w ≡ Unbounded)
+stop_kind why.Nodes e = absurd (cc)
+stop_kind why.Pivots e = absurd (cc)
+stop_kind (why.Points column) e = absurd (cc)
+stop_kind (why.Grid number) e = absurd (cc)
+stop_kind (why.Pivot number step wide) e = absurd (cc)
+stop_kind (why.Value number step wide) e = absurd (cc)
+stop_kind (why.Leaf number) e = absurd (cc)
+stop_kind (why.Vertex number) e = absurd (cc)
+stop_kind why.Ray e = absurd (cc)
+
+-- without a best point there is no point
+no_point : (i : Option Incumbent) → IsNone i → IsNone (point_of i)
+no_point None none = refl
+no_point (Some i) none = absurd (cc)
 
 tolerance : (d : DeckValue) → d.arcs ≡ [] → ToleranceHolds d (pos 0)
 tolerance d no_arcs = record { without_arcs = λ _. refl; least = λ some. absurd (some no_arcs); most = λ some. absurd (some no_arcs) }
@@ -90,7 +122,7 @@ module _ (d : DeckValue) (formed : IsDeck d) (no_arcs : d.arcs ≡ []) (budget :
     accepted = accepts;
     right = accepted-is-right-law d (over_answer s.incumbent s.least tree) formed accepts;
     checkable = record { point = point_checkable d s.incumbent search.best; ray = tt; nodes = tree_checkable d s.growth tree checkable told };
-    tells = record {
+    tells = tells_search (kind_of_over s.incumbent) d budget (over_answer s.incumbent s.least tree) (over_kind s.incumbent) (record {
       tolerance = refl;
       ray = refl;
       growth = s.growth;
@@ -111,7 +143,8 @@ module _ (d : DeckValue) (formed : IsDeck d) (no_arcs : d.arcs ≡ []) (budget :
       pivots = let h = pivots_all over.start budget.pivots over.ran.going.history over.ran.going.told.chained in omega (arith, h);
       spent_nodes = λ e. absurd (cc);
       spent_pivots = λ e. absurd (cc);
-    };
+      no_point = λ some. no_point s.incumbent (over.ran.going.no_best (some_kept s.ray (ray_of over.ran.going.history) over.ran.going.ray_is some));
+    });
   }
 
   pub over_answered : (kind : AnswerKind) (objective : Option Rational) (point : Option PointValue) → kind ≡ kind_of_over s.incumbent → objective ≡ objective_of s.incumbent → point ≡ point_of s.incumbent
@@ -147,7 +180,7 @@ module _ (d : DeckValue) (formed : IsDeck d) (no_arcs : d.arcs ≡ []) (budget :
     accepted = stop_accepts;
     right = accepted-is-right-law d answer formed stop_accepts;
     checkable = record { point = point_checkable d i stopping.draining.best; ray = tt; nodes = tree_checkable d g tree s.checkable told };
-    tells = record {
+    tells = tells_search (kind_of_stop cause) d budget answer (stop_kind cause) (record {
       tolerance = refl;
       ray = refl;
       growth = g;
@@ -168,7 +201,8 @@ module _ (d : DeckValue) (formed : IsDeck d) (no_arcs : d.arcs ≡ []) (budget :
       pivots = let h = pivots_all s.start budget.pivots s.history s.told.chained in omega (arith, h);
       spent_nodes = λ e. spent_between d s.start budget (objective_of i) g (map id_of ws) s.history s.told stopping.draining.numbered (subst (IsEndedBy s.history) e s.ended) (s.all (cause_is cause why.Nodes e)) (s.hand (cause_is cause why.Nodes e));
       spent_pivots = λ e. spent_by d s.start budget g s.history s.told (subst (IsEndedBy s.history) e s.ended);
-    };
+      no_point = λ some. no_point i (s.no_best some);
+    });
   }
 
   pub stop_answered : (kind : AnswerKind) (objective bound : Option Rational) (point : Option PointValue) → kind ≡ kind_of_stop cause → objective ≡ objective_of i → bound ≡ bound_of endless least → point ≡ point_of i
@@ -178,3 +212,48 @@ module _ (d : DeckValue) (formed : IsDeck d) (no_arcs : d.arcs ≡ []) (budget :
       (subst (λ (x : Option Rational). AnswersFor d budget (record { kind = kind_of_stop cause; why = Some cause; tolerance = pos 0; objective = x; bound = bound; point = point; ray = None; tree = tree })) (sym o)
       (subst (λ (x : Option Rational). AnswersFor d budget (record { kind = kind_of_stop cause; why = Some cause; tolerance = pos 0; objective = objective_of i; bound = x; point = point; ray = None; tree = tree })) (sym b)
       (subst (λ (x : Option PointValue). AnswersFor d budget (record { kind = kind_of_stop cause; why = Some cause; tolerance = pos 0; objective = objective_of i; bound = bound_of endless least; point = x; ray = None; tree = tree })) (sym p) stop_answers)))
+
+-- ---- a feasible point of a deck with a ray
+abbrev found_answer : PointValue → List ℤ → AnswerValue
+found_answer p ray = record { kind = Unbounded; why = None; tolerance = pos 0; objective = None; bound = None; point = Some p; ray = Some ray; tree = [] }
+
+module _ (d : DeckValue) (formed : IsDeck d) (no_arcs : d.arcs ≡ []) (budget : Budget) (s : Search) (p : PointValue) (is : IsFound d budget.pivots s p) where
+  abbrev ray : List ℤ
+  ray = is.found.ray.items
+
+  its_ray : Ray d ray
+  its_ray = shown-ray-law d is.start is.found.shown.pivots ray formed no_arcs is.found.starts is.found.board is.found.shown.shows
+
+  found_accepts : IsAccepted d (found_answer p ray)
+  found_accepts =
+      inl (
+        tolerance d no_arcs,
+        inl (
+          record { cause = refl; fields = record { point = refl; objective = refl; bound = refl; ray = refl; tree = refl } },
+          inl (
+            record { point = is.found.small; ray = is.found.shown.shows.small },
+            inl (
+              is.found.feasible,
+              inl (
+                tt,
+                inl (its_ray, refl),
+              ),
+            ),
+          ),
+        ),
+      )
+
+  found_answers : AnswersFor d budget (found_answer p ray)
+  found_answers = record {
+    accepted = found_accepts;
+    right = accepted-is-right-law d (found_answer p ray) formed found_accepts;
+    checkable = record { point = record { den = is.found.feasible.den; parts = is.found.feasible.parts }; ray = its_ray.parts; nodes = λ k default h. absurd (omega arith) };
+    tells = record { tolerance = refl; start = is.start; starts = is.found.starts; board = is.found.board; ray = ray; ray_is = refl; shown = is.found.shown };
+  }
+
+  -- whatever fields say so
+  pub found_answered : (given : Option (List ℤ)) (tree : List NodeValue) → given ≡ Some ray → tree ≡ []
+      → AnswersFor d budget (record { kind = Unbounded; why = None; tolerance = pos 0; objective = None; bound = None; point = Some p; ray = given; tree = tree })
+  found_answered given tree r t =
+      subst (λ (x : Option (List ℤ)). AnswersFor d budget (record { kind = Unbounded; why = None; tolerance = pos 0; objective = None; bound = None; point = Some p; ray = x; tree = tree })) (sym r)
+      (subst (λ (x : List NodeValue). AnswersFor d budget (record { kind = Unbounded; why = None; tolerance = pos 0; objective = None; bound = None; point = Some p; ray = Some ray; tree = x })) (sym t) found_answers)

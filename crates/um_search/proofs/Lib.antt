@@ -1,4 +1,3 @@
-pub mod SearchedColumns
 pub mod SpentPivots
 pub mod SpentNodes
 pub mod HandedLeaves

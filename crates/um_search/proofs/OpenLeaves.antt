@@ -1,5 +1,6 @@
 -- A search stops: the node in hand, and then each that waits, becomes an open leaf with its multipliers.
 use Rattle.std.proofs.Common.{◌≡◌, ◌∙◌, ℕ, suc, ◌≤◌, pos, Bool, false, List, [], ◌∷◌, ◌++◌, length, map, Option, Some, None, refl, sym, ap, subst, arith, inl, inr, length-append}
+use Rattle.std.specs.Prelude.{ℤ, IsSome}
 use Rattle.um_laws.specs.Rational.{Rational}
 use Rattle.um_multipliers.specs.PlainMultipliers.{MultipliersValue, plain_multipliers}
 use Rattle.um_model.specs.Values.{DeckValue, PointValue}
@@ -26,7 +27,7 @@ use Rattle.um_progress.proofs.Settling.{stops_in_hand}
 use Rattle.um_progress.proofs.Stopping.{last_waits, stop_act}
 use Rattle.um_turns.specs.Turns.{Turn, TurnEnd, Reached, Halted, HaltHolds, EndHolds, Became}
 use Rattle.um_turns.specs.NextTurns.{IsNextTurn, IsNoBetter}
-use Rattle.um_turns.specs.Histories.{History, IsHanded, AreHanded}
+use Rattle.um_turns.specs.Histories.{History, IsHanded, AreHanded, ray_of}
 use Rattle.um_search.specs.declared.budget.Budget.{Budget}
 use Rattle.um_loop.specs.declared.search.Search.{Search}
 use Rattle.um_loop.specs.declared.search.Halt.{Halt}
@@ -43,6 +44,7 @@ use Rattle.um_search.proofs.HandedLeaves.{leaf_of, none_but, among_last, but_on,
 use Rattle.um_loop.proofs.Checkables.{checkable_on}
 use Rattle.um_loop.proofs.KeysClose.{open_still}
 use Rattle.um_loop.proofs.NeededTurns.{needed_more, needed_on, open_last}
+use Rattle.um_loop.proofs.Settled.{ray_more, some_kept}
 use Rattle.um_loop.proofs.UnnumberedNodes.{settled_unnumbered, unnumbered_more}
 
 -- a node that waits stands open in the tree
@@ -109,6 +111,7 @@ module _ (d : DeckValue) (no_arcs : d.arcs ≡ []) (budget : Budget) (s : Search
           needed = needed_on d s.growth (after None) id (settle_changes d s.growth id (node None)) g.history t.waits.fresh.solved g.search.numbered g.needed;
           best = g.best;
           ended = subst (λ (w : Why). IsEndedBy g.history (Some w)) (sym h.cause) g.finished;
+          no_best = λ some. g.no_best (some_kept s.ray (ray_of g.history) g.ray_is some);
           nodes = subst (λ (k : ℕ). k ≤ budget.nodes) g.solved within;
           all = λ _. sym g.solved ∙ h.all;
           hand = λ _. hand_here d (objective_of s.incumbent) s.growth id y (map id_of s.open) t.waits.fresh.inside g.search.distinct (open_still d (box_at d s.growth id) y halt.hand.key s.incumbent t.waits.key h.open_still);
@@ -129,7 +132,11 @@ module _ (d : DeckValue) (no_arcs : d.arcs ≡ []) (budget : Budget) (s : Search
       holds = subst (EndHolds d (box_at d s.growth id) h.turn h.pivots (suc (length h.history))) h.end_is h.run
 
       no_budget : ¬ (halt.why ≡ why.Nodes)
-      no_budget e = subst (λ (w : Why). HaltHolds d (box_at d s.growth id) h.turn h.pivots (suc (length h.history)) w h.own) e holds
+      no_budget e = never (subst (λ (w : Why). HaltHolds d (box_at d s.growth id) h.turn h.pivots (suc (length h.history)) w h.own) e holds)
+        where
+          never : ¬ HaltHolds d (box_at d s.growth id) h.turn h.pivots (suc (length h.history)) why.Nodes h.own
+          never (inl r) = r.holds
+          never (inr o) = o.stopped.stopped
 
       became : Became d h.turn.handed h.turn.end (OpenLeaf y)
       became = subst (λ (e : TurnEnd). Became d h.turn.handed e (OpenLeaf y)) (sym h.end_is) h.kept
@@ -162,6 +169,7 @@ module _ (d : DeckValue) (no_arcs : d.arcs ≡ []) (budget : Budget) (s : Search
         needed = needed_more d (after own) h.history turn last_needed (needed_on d s.growth (after own) id (settle_changes d s.growth id (node own)) h.history h.waits.fresh.solved h.search.numbered h.needed);
         best = best_stays d h.history s.incumbent turn (subst (IsNoBetter d s.incumbent) (sym h.end_is) tt) h.best;
         ended = ended_by history halt.why no_budget (record { before = h.history; last = turn; own = h.own; history_is = refl; finished = h.finished; end = h.end_is });
+        no_best = λ some. h.no_best (subst (λ (r : Option (List ℤ)). IsSome r) (ray_more h.history turn) some);
         nodes = size;
         all = λ e. absurd (no_budget e);
         hand = λ e. absurd (no_budget e);
@@ -212,6 +220,7 @@ module _ (d : DeckValue) (budget : Budget) (cause : Why) (incumbent : Option Inc
     needed = needed_on d g (settled g w.node leaf) w.node (settle_changes d g w.node leaf) s.history entry_waits.fresh.solved s.stopping.draining.numbered s.needed;
     best = s.best;
     ended = s.ended;
+    no_best = s.no_best;
     nodes = s.nodes;
     all = s.all;
     hand = λ e. hand_on d (objective_of incumbent) g (map id_of (rest ++ w ∷ [])) (map id_of rest) w.node leaf (last_is_among rest w) (others_are_among rest w) (subst (λ (xs : List OpenNode). HasHand d (objective_of incumbent) g (map id_of xs)) is (s.hand e));

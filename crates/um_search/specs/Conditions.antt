@@ -1,13 +1,11 @@
 -- Which decks are searched so far, and which budgets there are.
-use Rattle.std.specs.Prelude.{◌≡◌, ◌≤◌, pos, [], All}
-use Rattle.um_model.specs.Values.{DeckValue, ColumnValue}
-use Rattle.um_model.specs.WellFormed.{HasTwoEnds}
+use Rattle.std.specs.Prelude.{◌≡◌, ◌≤◌, pos, []}
+use Rattle.um_model.specs.Values.{DeckValue}
 use Rattle.um_search.specs.declared.budget.Budget.{Budget}
 
--- no arcs, and two finite ends for each column; the kinds of the columns, the ordered sets, the rows, their sides, the scales and the sense are free
+-- no arcs; the columns, their kinds and their ends, the ordered sets, the rows, their sides, the scales and the sense are free
 pub record IsSearched (d : DeckValue) : Type 0 where
   pub arcs : d.arcs ≡ []
-  pub columns : All (λ (c : ColumnValue). HasTwoEnds c.low c.high) d.columns
 
 -- from 1 to 100,000 nodes and from 1 to 10,000,000 pivots; the tolerance of a deck without arcs is 0
 pub record IsBudget (b : Budget) : Type 0 where

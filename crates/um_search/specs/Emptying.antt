@@ -1,9 +1,9 @@
 -- A search that is over, and what holds while the open nodes of one that stopped early get their multipliers.
-use Rattle.std.specs.Prelude.{◌≡◌, ℕ, ◌<◌, ◌≤◌, pos, Bool, List, length, map, Option, Some, None}
+use Rattle.std.specs.Prelude.{◌≡◌, ℕ, ◌<◌, ◌≤◌, pos, Bool, List, length, map, Option, Some, None, IsSome, IsNone}
 use Rattle.um_laws.specs.Rational.{Rational}
 use Rattle.um_multipliers.specs.PlainMultipliers.{MultipliersValue, plain_multipliers}
 use Rattle.um_multipliers.specs.NormalForm.{HasRisingRows}
-use Rattle.um_model.specs.Values.{DeckValue}
+use Rattle.um_model.specs.Values.{DeckValue, PointValue}
 use Rattle.um_model.specs.declared.answer.AnswerKind.{AnswerKind}
 use Rattle.um_model.specs.declared.answer.AnswerKind.TheVariants.{Optimal, Infeasible as HasNone}
 use Rattle.um_model.specs.declared.answer.Why.{Why}
@@ -19,12 +19,12 @@ use Rattle.um_progress.specs.Stops.{IsStopping}
 use Rattle.um_progress.specs.Searches.{objective_of}
 use Rattle.um_progress.specs.Lineage.{IsLineage}
 use Rattle.um_turns.specs.Turns.{Turn}
-use Rattle.um_turns.specs.Histories.{History, IsHistory, AreHanded, IsBest}
+use Rattle.um_turns.specs.Histories.{History, IsHistory, AreHanded, IsBest, ray_of}
 use Rattle.um_search.specs.declared.budget.Budget.{Budget}
 use Rattle.um_loop.specs.declared.search.Search.{Search}
 use Rattle.um_loop.specs.declared.search.Halt.{Halt}
 use Rattle.um_loop.specs.Checkables.{AreCheckable}
-use Rattle.um_loop.specs.Goings.{RanOut, HasStopped}
+use Rattle.um_loop.specs.Goings.{RanOut, HasStopped, HasFound}
 use Rattle.um_loop.specs.UnnumberedNodes.{AreUnnumbered}
 use Rattle.um_loop.specs.NeededTurns.{AreNeeded}
 use Rattle.um_search.specs.Told.{IsEndedBy, IsHandedLeaf, IsOpenStill}
@@ -44,6 +44,11 @@ pub record IsOver (d : DeckValue) (pivots : ℕ) (s : Search) : Type 0 where
 abbrev pub kind_of_over : Option Incumbent → AnswerKind
 kind_of_over None = HasNone
 kind_of_over (Some i) = Optimal
+
+-- a search with so many pivots, begun on some board, that found this point of a deck with a ray
+pub record IsFound (d : DeckValue) (pivots : ℕ) (s : Search) (p : PointValue) : Type 0 where
+  pub start : State
+  pub found : HasFound d start pivots s p
 
 -- a search with so many pivots and nodes, begun on some board, that stopped early
 pub record IsHalted (d : DeckValue) (pivots nodes : ℕ) (s : Search) (halt : Halt) : Type 0 where
@@ -80,6 +85,7 @@ pub record IsEmptying (d : DeckValue) (budget : Budget) (cause : Why) (incumbent
   pub needed : AreNeeded d g history
   pub best : IsBest d history incumbent
   pub ended : IsEndedBy history (Some cause)
+  pub no_best : IsSome (ray_of history) → IsNone incumbent
   pub nodes : length history ≤ budget.nodes
   pub all : cause ≡ why.Nodes → length history ≡ budget.nodes
   pub hand : cause ≡ why.Nodes → HasHand d (objective_of incumbent) g (map id_of waiting)

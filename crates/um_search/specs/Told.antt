@@ -1,5 +1,5 @@
 -- What an answer tells of the search that it came from.
-use Rattle.std.specs.Prelude.{◌≡◌, ℕ, ◌<◌, ◌≤◌, pos, [], ◌∷◌, ◌++◌, length, Option, Some, None, IfSome}
+use Rattle.std.specs.Prelude.{◌≡◌, ℕ, suc, ◌<◌, ◌≤◌, ℤ, pos, ◌⊎◌, List, [], ◌∷◌, ◌++◌, length, Option, Some, None, IfSome, IsSome, IsNone}
 use Rattle.um_laws.specs.Rational.{Rational}
 use Rattle.um_multipliers.specs.PlainMultipliers.{MultipliersValue}
 use Rattle.um_model.specs.Values.{DeckValue}
@@ -8,9 +8,15 @@ use Rattle.um_model.specs.LeafValue.{Closes}
 use Rattle.um_model.specs.AnswerValues.{AnswerValue, OpenLeaf}
 use Rattle.um_model.specs.declared.answer.Why.{Why}
 use Rattle.um_model.specs.declared.answer.Why.TheVariants as why
+use Rattle.um_model.specs.declared.answer.AnswerKind.{AnswerKind}
+use Rattle.um_model.specs.declared.answer.AnswerKind.TheVariants.{Unbounded}
 use Rattle.um_lp.specs.States.{State}
+use Rattle.um_lp.specs.Boards.{IsBoard, IsStart}
+use Rattle.um_duality.specs.Relaxed.{deck_frame}
 use Rattle.um_dual.specs.Methods.{IsDue}
-use Rattle.um_solving.specs.Solvings.{IsRun}
+use Rattle.um_relax.specs.Runs.{IsRun}
+use Rattle.um_ray.specs.Starts.{IsOutOfPivots}
+use Rattle.um_opening.specs.Numbers.{IsNumberRun}
 use Rattle.um_tree.specs.Growths.{GrowthValue, IsGrowth, IsTold, node_at, what_at, origin_at}
 use Rattle.um_cover.specs.Sites.{box_at}
 use Rattle.um_progress.specs.declared.incumbent.Incumbent.{Incumbent}
@@ -20,7 +26,8 @@ use Rattle.um_progress.specs.Searches.{objective_of}
 use Rattle.um_progress.specs.Lineage.{IsLineage}
 use Rattle.um_progress.specs.Ends.{point_of}
 use Rattle.um_turns.specs.Turns.{Turn, Halted}
-use Rattle.um_turns.specs.Histories.{History, IsHanded, IsHistory, AreFinished, IsBest, pivots_of}
+use Rattle.um_turns.specs.Histories.{History, IsHanded, IsHistory, AreFinished, IsBest, pivots_of, ray_of}
+use Rattle.um_turns.specs.Laws.{HasShown}
 use Rattle.um_loop.specs.Goings.{IsNoGrid}
 use Rattle.um_loop.specs.UnnumberedNodes.{AreUnnumbered}
 use Rattle.um_loop.specs.NeededTurns.{AreNeeded}
@@ -57,15 +64,19 @@ pub record HasSpentNodes (d : DeckValue) (budget : Budget) (best : Option Ration
   pub own_is : what_at g hand ≡ OpenLeaf own
   pub open_still : IsOpenStill d best (box_at d g hand) own
 
--- all pivots of the budget are made, and a step is due on the node of the last turn
+-- a step is due in the run on the box of the node of this number, or in the start problem with which number 1 opens the board
+abbrev pub IsStepDue : DeckValue → BoxValue → Number Turn → ℕ → Type 0
+IsStepDue d b n number =
+    IsNumberRun d number n.told.before n.pivots n.told.ray (λ begun early steps. (state : State) × IsRun d b begun steps state × IsDue state)
+    ⊎ ((number ≡ 1) × (state : State) × IsOutOfPivots d n.told.before n.pivots 0 state)
+
+-- all pivots of the budget are made, and a step is due in the last turn
 pub record HasSpentPivots (d : DeckValue) (budget : Budget) (g : GrowthValue) (history : History) : Type 0 where
   pub all : pivots_of history ≡ budget.pivots
   pub before : History
   pub last : Number Turn
   pub history_is : history ≡ before ++ last ∷ []
-  pub state : State
-  pub run : IsRun d (box_at d g last.id) last.told.before last.pivots state
-  pub due : IsDue state
+  pub due : IsStepDue d (box_at d g last.id) last (suc (length before))
 
 -- ---- the open leaves
 
@@ -102,6 +113,7 @@ pub record TellsBest (d : DeckValue) (history : History) (a : AnswerValue) : Typ
 --   nodes, pivots: within the budget
 --   spent_nodes: where nodes were wanting, all are solved and one more is in hand, which the best point does not close
 --   spent_pivots: where pivots were wanting, all were made and one more step is due
+--   no_point: where the first turn has shown a ray there is no point, as a feasible one makes the answer Unbounded
 pub record TellsSearch (d : DeckValue) (budget : Budget) (a : AnswerValue) : Type 0 where
   pub tolerance : a.tolerance ≡ pos 0
   pub ray : a.ray ≡ None
@@ -123,3 +135,23 @@ pub record TellsSearch (d : DeckValue) (budget : Budget) (a : AnswerValue) : Typ
   pub pivots : pivots_of history ≤ budget.pivots
   pub spent_nodes : a.why ≡ Some why.Nodes → HasSpentNodes d budget a.objective growth history
   pub spent_pivots : a.why ≡ Some why.Pivots → HasSpentPivots d budget growth history
+  pub no_point : IsSome (ray_of history) → IsNone a.point
+
+-- An unbounded answer tells of its search that the start problem, on a board that starts, has shown its ray within the budget.
+pub record TellsRay (d : DeckValue) (budget : Budget) (a : AnswerValue) : Type 0 where
+  pub tolerance : a.tolerance ≡ pos 0
+  pub start : State
+  pub starts : IsStart (deck_frame d) start
+  pub board : IsBoard start
+  pub ray : List ℤ
+  pub ray_is : a.ray ≡ Some ray
+  pub shown : HasShown d start budget.pivots ray
+
+-- what an answer of this kind tells
+abbrev pub TellsOf : AnswerKind → DeckValue → Budget → AnswerValue → Type 0
+TellsOf Unbounded d budget a = TellsRay d budget a
+TellsOf other d budget a = TellsSearch d budget a
+
+-- an answer tells the search that it came from; an unbounded one its ray alone
+abbrev pub TellsAnswer : DeckValue → Budget → AnswerValue → Type 0
+TellsAnswer d budget a = TellsOf a.kind d budget a

@@ -20,9 +20,9 @@ ghost use Rattle.um_progress.specs.Searches.{objective_of};
 ghost use Rattle.um_progress.specs.Stops.{Counts, bound_of as bound_in_all};
 ghost use Rattle.um_progress.specs.Waits.{WaitsIn};
 ghost use Rattle.um_loop.specs.Checkables.{AreCheckable};
-ghost use Rattle.um_search.specs.Emptying.{IsOver, IsHalted, kind_of_over};
+ghost use Rattle.um_search.specs.Emptying.{IsOver, IsHalted, IsFound, kind_of_over};
 ghost use Rattle.um_loop.specs.Goings.{IsGoing, IsNoGrid};
-ghost use Rattle.um_search.specs.Told.{TellsSearch};
+ghost use Rattle.um_search.specs.Told.{TellsAnswer};
 
 use crate::budget::Budget;
 use std::alloc::Global;
@@ -31,7 +31,7 @@ use um_box::NodeBox;
 use um_children::{key_of, one_and_none};
 use um_deck::Deck;
 use um_loop::{Halt, Search, is_endless, lesser};
-use um_model::{Answer, AnswerKind, Node, Point, Solved, What};
+use um_model::{Answer, AnswerKind, Node, Point, Solved, Tree, What};
 use um_nodes::{OpenNode, OpenNodes};
 use um_num::{Frac, Memory};
 use um_progress::Incumbent;
@@ -58,6 +58,7 @@ pub(crate) fn begin(alloc: Global, deck: &Deck, root: &NodeBox<'_>) -> Result<Se
         incumbent: None,
         least: None,
         solved: 0,
+        ray: None,
     })
 }
 
@@ -77,7 +78,7 @@ pub(crate) fn finish(
     ensures accepted { IfOk result (λ answer. IsAccepted deck.now (plain_answer answer)) }
     ensures right { IfOk result (λ answer. IsRight deck.now (plain_answer answer)) }
     ensures checkable { IfOk result (λ answer. IsCheckable deck.now (plain_answer answer)) }
-    ensures tells { IfOk result (λ answer. TellsSearch deck.now budget (plain_answer answer)) }
+    ensures tells { IfOk result (λ answer. TellsAnswer deck.now budget (plain_answer answer)) }
 {
     let _ = deck;
     let _ = budget;
@@ -87,6 +88,7 @@ pub(crate) fn finish(
         incumbent,
         least,
         solved: _solved,
+        ray: _ray,
     } = search;
     let tree = growth.into_tree(alloc)?;
     let kind = kind_of_over(&incumbent);
@@ -121,7 +123,7 @@ pub(crate) fn stop(
     ensures accepted { IfOk result (λ answer. IsAccepted deck.now (plain_answer answer)) }
     ensures right { IfOk result (λ answer. IsRight deck.now (plain_answer answer)) }
     ensures checkable { IfOk result (λ answer. IsCheckable deck.now (plain_answer answer)) }
-    ensures tells { IfOk result (λ answer. TellsSearch deck.now budget (plain_answer answer)) }
+    ensures tells { IfOk result (λ answer. TellsAnswer deck.now budget (plain_answer answer)) }
 {
     let _ = budget;
     let Halt { why, hand, solved } = halt;
@@ -131,6 +133,7 @@ pub(crate) fn stop(
         incumbent,
         least,
         solved: _solved,
+        ray: _ray,
     } = search;
     let closed = Bounds {
         endless: false,
@@ -153,6 +156,36 @@ pub(crate) fn stop(
         ray: None,
         tree,
     })
+}
+
+/// The answer of a search that found a feasible point of a deck with a ray: the objective has no end.
+pub(crate) fn unbounded(
+    alloc: Global,
+    deck: &Deck,
+    search: Search,
+    point: Point,
+    budget: Budget,
+) -> Answer
+    requires formed { IsDeck deck.now }
+    requires no_arcs { deck.now.arcs ≡ [] }
+    requires found { IsFound deck.now budget.pivots search (plain_point point) }
+    ensures accepted { IsAccepted deck.now (plain_answer result) }
+    ensures right { IsRight deck.now (plain_answer result) }
+    ensures checkable { IsCheckable deck.now (plain_answer result) }
+    ensures tells { TellsAnswer deck.now budget (plain_answer result) }
+{
+    let _ = deck;
+    let _ = budget;
+    Answer {
+        kind: AnswerKind::Unbounded,
+        why: None,
+        tolerance: 0,
+        objective: None,
+        bound: None,
+        point: Some(point),
+        ray: search.ray,
+        tree: Tree::new(alloc),
+    }
 }
 
 /// The kind of the answer of a search in which no node waits.

@@ -1,10 +1,10 @@
 //! Branch and bound: from a deck and a budget to an answer with the tree that proves it.
 //!
-//! [`solve`] searches a deck without arcs whose columns have two finite ends, ordered sets and integer and
-//! semicontinuous columns included; [`is_searched`] tells such decks. A caller may rest on this: the answer
-//! is accepted by every checker of trees, and so it is right; it tells the search that it came from, with
-//! the runs of the dual simplex method on all of its nodes; and it stops early only at the budget of nodes
-//! or of pivots, or where a number is too large.
+//! [`solve`] searches a deck without arcs, infinite ends, ordered sets and integer and semicontinuous columns
+//! included; [`is_searched`] tells such decks. A caller may rest on this: the answer is accepted by every
+//! checker of trees, and so it is right; it tells the search that it came from, with the runs of the dual
+//! simplex method on all of its nodes, or the ray that makes it unbounded; and it stops early only at the
+//! budget of nodes or of pivots, or where a number is too large.
 #![tactic(auto)]
 
 mod budget;

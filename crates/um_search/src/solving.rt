@@ -10,20 +10,21 @@ ghost use Rattle.um_model.specs.Checkable.{IsCheckable};
 ghost use Rattle.um_model.specs.Right.{IsRight};
 ghost use Rattle.um_relax.specs.Relaxations.{IsRelaxationOf};
 ghost use Rattle.um_search.specs.Conditions.{IsSearched, IsBudget};
-ghost use Rattle.um_search.specs.Told.{TellsSearch};
+ghost use Rattle.um_search.specs.Told.{TellsAnswer};
 
 use crate::budget::Budget;
-use crate::ends::{begin, finish, stop};
+use crate::ends::{begin, finish, stop, unbounded};
 use std::alloc::Global;
 use um_box::NodeBox;
 use um_deck::Deck;
+use um_loop::Ending;
 use um_lp::Board;
 use um_model::Answer;
 use um_num::Memory;
 use um_relax::{Relaxation, build};
 use um_tableau::Tableau;
 
-/// The answer to a deck without arcs whose columns have two finite ends. The error is want of memory.
+/// The answer to a deck without arcs. The error is want of memory.
 ///
 /// The answer is accepted by a checker of its tree, and so it is right, and it tells the search that it
 /// came from. It stops early only at the budget of nodes or of pivots, or where a number is too large.
@@ -33,7 +34,7 @@ pub fn solve(alloc: Global, deck: &Deck, budget: Budget) -> Result<Answer, Memor
     ensures accepted { IfOk result (λ answer. IsAccepted deck.now (plain_answer answer)) }
     ensures right { IfOk result (λ answer. IsRight deck.now (plain_answer answer)) }
     ensures checkable { IfOk result (λ answer. IsCheckable deck.now (plain_answer answer)) }
-    ensures tells { IfOk result (λ answer. TellsSearch deck.now budget (plain_answer answer)) }
+    ensures tells { IfOk result (λ answer. TellsAnswer deck.now budget (plain_answer answer)) }
 {
     let mut relaxation = build(alloc, deck)?;
     let mut board = Tableau::new(alloc, &relaxation)?;
@@ -54,7 +55,7 @@ pub fn solve_on<B: Board>(
     ensures accepted { IfOk result (λ answer. IsAccepted deck.now (plain_answer answer)) }
     ensures right { IfOk result (λ answer. IsRight deck.now (plain_answer answer)) }
     ensures checkable { IfOk result (λ answer. IsCheckable deck.now (plain_answer answer)) }
-    ensures tells { IfOk result (λ answer. TellsSearch deck.now budget (plain_answer answer)) }
+    ensures tells { IfOk result (λ answer. TellsAnswer deck.now budget (plain_answer answer)) }
 {
     let mut relaxation = build(alloc, deck)?;
     search_on(alloc, deck, &mut relaxation, board, budget)
@@ -76,15 +77,16 @@ fn search_on<B: Board>(
     ensures accepted { IfOk result (λ answer. IsAccepted deck.now (plain_answer answer)) }
     ensures right { IfOk result (λ answer. IsRight deck.now (plain_answer answer)) }
     ensures checkable { IfOk result (λ answer. IsCheckable deck.now (plain_answer answer)) }
-    ensures tells { IfOk result (λ answer. TellsSearch deck.now budget (plain_answer answer)) }
+    ensures tells { IfOk result (λ answer. TellsAnswer deck.now budget (plain_answer answer)) }
 {
     deck.known();
     let root = NodeBox::root(alloc, deck)?;
     let mut search = begin(alloc, deck, &root)?;
     let mut left = budget.pivots;
-    let halt = search.run(alloc, deck, relaxation, board, budget.nodes, &mut left)?;
-    match halt {
+    let ending = search.run(alloc, deck, relaxation, board, budget.nodes, &mut left)?;
+    match ending {
         None => finish(alloc, deck, search, budget),
-        Some(halt) => stop(alloc, deck, search, halt, budget),
+        Some(Ending::Halted(halt)) => stop(alloc, deck, search, halt, budget),
+        Some(Ending::Found(point)) => Ok(unbounded(alloc, deck, search, point, budget)),
     }
 }

@@ -1,4 +1,3 @@
-use Rattle.um_loop.specs.Goings.{Beginning}
 use Rattle.um_search.proofs.solving.search_on.Given as goal
 
 abbrev pub ghost-run : goal.ghost-run
