@@ -1,4 +1,4 @@
-//! Pivots by hand, with fractions worked out outside, and a board that meets numbers out of range.
+//! Pivots by hand, with fractions worked out outside, resets, and a board that meets numbers out of range.
 
 ghost use Rattle.std.specs.Prelude.{◌≡◌, ◌+◌, ◌<◌, ◌^◌, length, All, IfOk, OnOk};
 ghost use Rattle.um_num.specs.Numbers.{IsInRange};
@@ -6,7 +6,7 @@ ghost use Rattle.um_lp.specs.Relaxations.{AreTerms, IsRelaxation};
 
 use std::alloc::{AllocError, Global};
 use std::process::Abort;
-use um_lp::{At, Board, Relaxation, Term};
+use um_lp::{At, Board, Costs, Relaxation, Term};
 use um_num::{Frac, List, Memory, Wide};
 use um_tableau::Tableau;
 
@@ -114,6 +114,17 @@ fn expect<B: Board>(
         );
     }
     Ok(())
+}
+
+/// All ends are 0.
+fn expect_zero_ends<B: Board>(rt: &impl Abort, board: &B) {
+    for column in 0..board.columns() {
+        let ends = board.ends(column);
+        assert!(rt;
+            ends.0 == Some(0) && ends.1 == Some(0),
+            "ends of column {column}"
+        );
+    }
 }
 
 /// A pivot whose conditions are tested first.
@@ -279,6 +290,72 @@ fn root(rt: HostRuntime) -> Result<(), Memory> {
             "column {column} enters at row {row}"
         );
         expect(alloc, &rt, &board, names, at, shown)?;
+    }
+    Ok(())
+}
+
+/// The rows, costs and values of the start.
+const START: &[(i128, i128)] = &[
+    (6, 1),
+    (4, 1),
+    (-1, 1),
+    (0, 1),
+    (1, 1),
+    (2, 1),
+    (0, 1),
+    (-1, 1),
+    (-5, 1),
+    (-4, 1),
+    (0, 1),
+    (0, 1),
+    (0, 1),
+    (0, 1),
+    (0, 1),
+    (0, 1),
+];
+
+/// The same without costs.
+const FREE: &[(i128, i128)] = &[
+    (6, 1),
+    (4, 1),
+    (-1, 1),
+    (0, 1),
+    (1, 1),
+    (2, 1),
+    (0, 1),
+    (-1, 1),
+    (0, 1),
+    (0, 1),
+    (0, 1),
+    (0, 1),
+    (0, 1),
+    (0, 1),
+    (0, 1),
+    (0, 1),
+];
+
+/// After two pivots and with new ends, a reset shows the start again, with its costs or without.
+#[test]
+fn start_again(rt: HostRuntime) -> Result<(), Memory> {
+    let alloc = rt.alloc();
+    let relaxation = relaxation(alloc, [[6, 4], [1, 2]], [-5, -4])?;
+    let mut board = Tableau::new(alloc, &relaxation)?;
+    assert!(rt; board.costs() == Costs::Given);
+    let at = [At::Lower, At::Lower, At::Basic, At::Basic];
+    expect(alloc, &rt, &board, [2, 3], at, START)?;
+    for (costs, shown) in [
+        (Costs::Given, START),
+        (Costs::Nothing, FREE),
+        (Costs::Nothing, FREE),
+        (Costs::Given, START),
+    ] {
+        assert!(rt; rebox(&rt, &mut board, 3, None, 6000).is_ok());
+        assert!(rt; pivot(&rt, &mut board, 0, 0, At::Lower).is_ok());
+        assert!(rt; pivot(&rt, &mut board, 1, 1, At::Upper).is_ok());
+        assert!(rt; board.reset(costs).is_ok());
+        expect(alloc, &rt, &board, [2, 3], at, shown)?;
+        assert!(rt; board.costs() == costs);
+        expect_zero_ends(&rt, &board);
     }
     Ok(())
 }

@@ -1,13 +1,15 @@
 //! Runs of the dual simplex method on the dense board, worked out by hand.
 
-ghost use Rattle.std.specs.Prelude.{◌≡◌, IfOk};
+ghost use Rattle.std.specs.Prelude.{◌≡◌, [], IfOk, IsTrue};
 ghost use Rattle.um_lp.specs.Boards.{IsStart};
 ghost use Rattle.um_lp.specs.DualSteps.{IsDualFeasible};
 ghost use Rattle.um_lp.specs.Relaxations.{frame_of};
 ghost use Rattle.um_model.specs.Boxes.{root as root_of};
+ghost use Rattle.um_model.specs.Values.{DeckValue};
 ghost use Rattle.um_model.specs.WellFormed.{IsDeck};
 ghost use Rattle.um_relax.specs.Relaxations.{IsRelaxationOf};
 ghost use Rattle.um_duality.specs.Relaxed.{StandsFor, deck_frame};
+ghost use Rattle.um_solving.specs.Laws.{MayBegin};
 ghost use Rattle.um_search.specs.Conditions.{IsSearched, IsBudget};
 
 use std::alloc::Global;
@@ -20,6 +22,7 @@ use um_lp::Board;
 use um_model::{Multipliers, Point, Price, Solved, What};
 use um_mps::read;
 use um_num::{Frac, Memory};
+use um_opening::{Opened, open};
 use um_relax::{Large, Reboxed, Relaxation, build, farkas, multipliers, rebox, vertex};
 use um_search::{Answer, AnswerKind, Budget, is_searched, solve, solve_on};
 use um_tableau::Tableau;
@@ -185,22 +188,44 @@ fn branches(rt: HostRuntime) -> Result<(), Fail> {
     Ok(())
 }
 
-/// The first step on a board with the root's ends.
-fn first_step<B: Board>(
+/// Opens a board that starts and puts the root's ends on it; false where the opening shows a ray, or where
+/// either is refused.
+fn put_root<B: Board>(
+    alloc: Global,
     root: &NodeBox<'_>,
     relaxation: &mut Relaxation,
     board: &mut B,
-) -> Option<Stepped>
+) -> Result<bool, Memory>
+    ghost d: { DeckValue }
+    requires same_deck { root.now.deck ≡ d }
     requires formed { IsDeck root.now.deck }
-    requires searched { IsSearched root.now.deck }
+    requires plain { d.arcs ≡ [] }
+    requires root { root.now.limits ≡ root_of root.now.deck }
+    requires relaxed { IsRelaxationOf d relaxation.old }
+    requires starts { IsStart (deck_frame d) (B.state board.old) }
+    ensures same { relaxation.new ≡ relaxation.old }
+    ensures put { IfOk result (λ put. IsTrue put → StandsFor root.now.deck (B.state board.new) × IsDualFeasible (B.state board.new)) }
+{
+    let mut left = 10;
+    let Opened::WithCosts = open(alloc, relaxation, board, &mut left)? else {
+        return Ok(false);
+    };
+    Ok(put_ends(root, relaxation, board))
+}
+
+/// Puts the root's ends on a board; false where one is refused.
+fn put_ends<B: Board>(root: &NodeBox<'_>, relaxation: &mut Relaxation, board: &mut B) -> bool
+    requires formed { IsDeck root.now.deck }
+    requires plain { root.now.deck.arcs ≡ [] }
     requires root { root.now.limits ≡ root_of root.now.deck }
     requires relaxed { IsRelaxationOf root.now.deck relaxation.old }
-    requires frame { frame_of relaxation.old ≡ deck_frame root.now.deck }
-    requires starts { IsStart (deck_frame root.now.deck) (B.state board.old) }
+    requires begins { MayBegin root.now.deck (B.state board.old) }
+    ensures same { relaxation.new ≡ relaxation.old }
+    ensures put { IsTrue result → StandsFor root.now.deck (B.state board.new) × IsDualFeasible (B.state board.new) }
 {
     match rebox(relaxation, board, root) {
-        Reboxed::Done => Some(um_dual::step(board)),
-        Reboxed::Full(_) | Reboxed::Wide(_) => None,
+        Reboxed::Done => true,
+        Reboxed::Full(_) | Reboxed::Wide(_) => false,
     }
 }
 
@@ -212,7 +237,11 @@ fn first_step_of(alloc: Global, deck: &Deck) -> Result<Option<Stepped>, Memory>
     let root = NodeBox::root(alloc, deck)?;
     let mut relaxation = build(alloc, deck)?;
     let mut board = Tableau::new(alloc, &relaxation)?;
-    Ok(first_step(&root, &mut relaxation, &mut board))
+    if put_root(alloc, &root, &mut relaxation, &mut board)? {
+        Ok(Some(um_dual::step(&mut board)))
+    } else {
+        Ok(None)
+    }
 }
 
 #[test]
@@ -260,26 +289,6 @@ fn read_end<B: Board>(
     }
 }
 
-/// What is read from a board that gets the root's ends.
-fn read_root<B: Board>(
-    alloc: Global,
-    root: &NodeBox<'_>,
-    relaxation: &mut Relaxation,
-    board: &mut B,
-) -> Result<Option<Reading>, Large>
-    requires formed { IsDeck root.now.deck }
-    requires searched { IsSearched root.now.deck }
-    requires root { root.now.limits ≡ root_of root.now.deck }
-    requires relaxed { IsRelaxationOf root.now.deck relaxation.old }
-    requires frame { frame_of relaxation.old ≡ deck_frame root.now.deck }
-    requires starts { IsStart (deck_frame root.now.deck) (B.state board.old) }
-{
-    match rebox(relaxation, board, root) {
-        Reboxed::Done => read_end(alloc, root, relaxation, board),
-        Reboxed::Full(_) | Reboxed::Wide(_) => Ok(None),
-    }
-}
-
 /// What is read at the root of a deck.
 fn read_root_of(alloc: Global, deck: &Deck) -> Result<Option<Reading>, Large>
     requires { IsSearched deck.now }
@@ -288,7 +297,11 @@ fn read_root_of(alloc: Global, deck: &Deck) -> Result<Option<Reading>, Large>
     let root = NodeBox::root(alloc, deck)?;
     let mut relaxation = build(alloc, deck)?;
     let mut board = Tableau::new(alloc, &relaxation)?;
-    read_root(alloc, &root, &mut relaxation, &mut board)
+    if put_root(alloc, &root, &mut relaxation, &mut board)? {
+        read_end(alloc, &root, &relaxation, &mut board)
+    } else {
+        Ok(None)
+    }
 }
 
 /// A deck, the first multiplier and those of the rows, and the point.

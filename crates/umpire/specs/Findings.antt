@@ -11,7 +11,7 @@ use Rattle.um_statements.specs.declared.fault.Fault.TheVariants as deck
 use Rattle.um_mps.specs.DeckText.{DeckText, DeckFault}
 use Rattle.um_mps.specs.declared.reader.ReadFault.{ReadFault}
 use Rattle.um_search.specs.Conditions.{IsSearched}
-use Rattle.um_search.specs.Told.{TellsSearch}
+use Rattle.um_search.specs.Told.{TellsAnswer}
 use Rattle.um_search.specs.declared.budget.Budget.{Budget}
 use Rattle.um_treetext.specs.declared.fault.TreeFault.{TreeFault}
 use Rattle.um_treetext.specs.declared.fault.TreeWord.TheVariants as tree
@@ -98,8 +98,8 @@ pub record IsFinding (d : DeckValue) (a : AnswerValue) (v : Verdict) : Type 0 wh
 
 -- ---- the answer
 
--- the answer is accepted by the checker, and right, and tells the search that it comes from, within the budget
+-- the answer is accepted by the checker, and right, and tells the search that it comes from, or its ray, within the budget
 pub record Answers (d : DeckValue) (budget : Budget) (a : AnswerValue) : Type 0 where
   pub accepted : IsAccepted d a
   pub right : IsRight d a
-  pub search : TellsSearch d budget a
+  pub tells : TellsAnswer d budget a

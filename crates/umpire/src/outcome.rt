@@ -70,8 +70,7 @@ pub enum Refusal {
     /// The tolerance asked for is below the least that the deck allows, in thousandths.
     LowTolerance { least: i64 },
     /// The first rule that a deck's text breaks, and its line. Line 0 is the whole file: it is too
-    /// long, it is empty, or its deck is not solved or checked yet, as it has an arc or a column
-    /// without two finite ends.
+    /// long, it is empty, or its deck is not solved or checked yet, as it has an arc.
     Deck(ReadFault),
     /// The first rule that a tree's text breaks, and its line. Line 0 is the whole file: it is too
     /// long, or it has no whole line.

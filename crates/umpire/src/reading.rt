@@ -95,7 +95,7 @@ fn deck_of(alloc: Global, bytes: &[u8]) -> Result<Deck, Stop>
 }
 
 /// The deck that a file is the text of, where it is searched, and so its trees are checked. Another deck, which has an
-/// arc or a column without two finite ends, is refused as `NotYet` at line 0.
+/// arc, is refused as `NotYet` at line 0.
 pub(crate) fn read_searched<D: Desk>(alloc: Global, desk: &mut D, name: &str) -> Result<Deck, Stop>
     requires idle { (D.scene desk.old).mode ≡ Idle }
     requires going { (D.scene desk.old).stopped ≡ false }

@@ -6,6 +6,7 @@ ghost use Rattle.um_outside.specs.MemoryDesks.{scene_of};
 ghost use Rattle.um_outside.specs.MemorySinks.{told_of};
 
 mod checking;
+mod infinite_ends;
 mod options;
 mod printing;
 mod searches;

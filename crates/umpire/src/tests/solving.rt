@@ -189,26 +189,17 @@ fn refused(rt: HostRuntime) -> Result<(), Fail> {
     Ok(())
 }
 
-/// Decks that break no rule and are not solved or checked yet: with an arc, and without a high, a low, or both ends.
-/// Each is `DECK` with a text in the place of another.
-const UNTAKEN: [(&str, &str); 4] = [
-    ("ENDATA\n", "ARCS\n Q COST x 1\nENDATA\n"),
-    (" UP BND x 3\n", " PL BND x\n"),
-    (" LO BND y 0\n", " MI BND y\n"),
-    (" UP BND y 2\n", " FR BND y\n"),
-];
-
 #[test]
 fn untaken(rt: HostRuntime) -> Result<(), Fail> {
-    for (old, new) in UNTAKEN {
-        let deck = changed(rt.alloc(), DECK, old, new)?;
-        let solving = solve(rt.alloc(), deck.as_bytes())?;
-        let text = b"deck refused: NotYet at line 0\n";
-        says(&rt, &solving.told, Status::Refused, text);
-        assert_eq!(rt; solving.tree.as_slice(), b"".as_slice());
-        let checked = call(rt.alloc(), "check deck tree", deck.as_bytes(), TREE)?;
-        says(&rt, &checked, Status::Refused, text);
-    }
+    // A deck with an arc breaks no rule and is not solved or checked yet.
+    let arc = "ARCS\n Q COST x 1\nENDATA\n";
+    let deck = changed(rt.alloc(), DECK, "ENDATA\n", arc)?;
+    let solving = solve(rt.alloc(), deck.as_bytes())?;
+    let text = b"deck refused: NotYet at line 0\n";
+    says(&rt, &solving.told, Status::Refused, text);
+    assert_eq!(rt; solving.tree.as_slice(), b"".as_slice());
+    let checked = call(rt.alloc(), "check deck tree", deck.as_bytes(), TREE)?;
+    says(&rt, &checked, Status::Refused, text);
     Ok(())
 }
 

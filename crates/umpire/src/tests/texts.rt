@@ -120,12 +120,7 @@ const CHANGED_DECKS: [(&[u8], &str, &str, &str); 17] = [
         " UP BND x 10000001\n",
         "deck refused: TooLarge at line 14\n",
     ),
-    (
-        DECK,
-        " UP BND x 3\n",
-        " UP BND x 1e30\n",
-        "deck refused: NotYet at line 0\n",
-    ),
+    (DECK, " UP BND x 3\n", " UP BND x 1e30\n", YES),
     (DECK, " UP BND x 3\n", " SC BND x 3\n", YES),
     (
         ROW2,
