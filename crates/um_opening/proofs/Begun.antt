@@ -10,30 +10,25 @@ use Rattle.um_lp.specs.declared.board.Costs.TheVariants.{Given}
 use Rattle.um_duality.specs.Relaxed.{StandsFor, deck_frame}
 use Rattle.um_solving.specs.Laws.{MayBegin}
 use Rattle.um_solving.proofs.Goings.{no-costs-begin-law}
-use Rattle.um_solving.proofs.Runs.{run_stands, same-costs-law}
+use Rattle.um_solving.proofs.Runs.{run_stands}
 use Rattle.um_ray.specs.Directions.{directions}
 use Rattle.um_ray.specs.Starts.{IsStartRun, IsReadyAfter}
-use Rattle.um_ray.proofs.MovingEnds.{stands_moving, stands_on_deck, on-directions-law}
-use Rattle.um_ray.proofs.Rays.{ray-law}
+use Rattle.um_ray.proofs.MovingEnds.{stands_moving, stands_on_deck}
 use Rattle.um_ray.proofs.StartRuns.{stands_first}
-use Rattle.um_ray.proofs.Values.{level-law}
+use Rattle.um_ray.proofs.StartSays.{run_given, is_ray, started-ready-law}
 use Rattle.um_opening.specs.Openings.{IsOpenWithCosts, IsOpenWithout}
 use Rattle.um_opening.specs.Numbers.{Begins, Onward, WithCosts, WithoutCosts}
 use Rattle.um_opening.specs.Laws.{BegunLaw, BegunCostsLaw, BegunWithoutLaw, ShownRayLaw}
 
 -- ---- the board after the start problem
-module _ (d : DeckValue) (s : State) (start : IsStart (deck_frame d) s) (pivots : ℕ) (t : State) (run : IsStartRun d s pivots t) where
-  run_on_deck : StandsFor d t
-  run_on_deck = stands_on_deck d t (run_stands (directions d) (root (directions d)) s pivots t (stands_moving d s (stands_first d s start)) run)
-
-  run_given : t.costs ≡ Given
-  run_given = same-costs-law (directions d) (root (directions d)) s pivots t run ∙ start.costs
+run_keeps : (d : DeckValue) (s : State) (pivots : ℕ) (t : State) → StandsFor d s → IsStartRun d s pivots t → StandsFor d t
+run_keeps d s pivots t stands run = stands_on_deck d t (run_stands (directions d) (root (directions d)) s pivots t (stands_moving d s stands) run)
 
 after_start : (d : DeckValue) (s : State) (pivots : ℕ) (t : State) → d.arcs ≡ [] → IsStart (deck_frame d) s → IsReadyAfter d s pivots t → MayBegin d t
 after_start d s pivots t arcs start h = record {
   board = h.solved.run.board;
-  stands = run_on_deck d s start pivots t h.solved.run;
-  wants = (level-law d t (on-directions-law d s pivots t arcs (stands_first d s start) h.solved.run) (run_given d s start pivots t h.solved.run)).0 h.level;
+  stands = run_keeps d s pivots t (stands_first d s start) h.solved.run;
+  wants = started-ready-law d s pivots 0 t arcs start (inr h);
 }
 
 pub open_begins : (d : DeckValue) (s : State) (pivots : ℕ) (t : State) → d.arcs ≡ [] → IsStart (deck_frame d) s → IsBoard s → IsOpenWithCosts d s pivots t → MayBegin d t
@@ -46,15 +41,10 @@ open_given d s pivots t start (inr h) = run_given d s start pivots t h.solved.ru
 
 without_begins : (d : DeckValue) (s : State) (pivots : ℕ) (ray : List ℤ) (t : State) → IsStart (deck_frame d) s → IsOpenWithout d s pivots ray t → MayBegin d t
 without_begins d s pivots ray t start h =
-    let shown : StandsFor d h.shows.shown = run_on_deck d s start pivots h.shows.shown h.shows.found.solved.run in
+    let shown : StandsFor d h.shows.shown = run_keeps d s pivots h.shows.shown (stands_first d s start) h.shows.found.solved.run in
     no-costs-begin-law d t h.reset.board (record { frame = h.reset.frame ∙ shown.frame; placed = h.reset.placed }) h.reset.costs
 
--- ---- a board that stands for the deck
-
-run_keeps : (d : DeckValue) (s : State) (pivots : ℕ) (t : State) → StandsFor d s → IsStartRun d s pivots t → StandsFor d t
-run_keeps d s pivots t stands run = stands_on_deck d t (run_stands (directions d) (root (directions d)) s pivots t (stands_moving d s stands) run)
-
--- it does so where the node of a number is begun
+-- a board that stands for the deck does so where the node of a number is begun
 pub begun_stands : (d : DeckValue) (number : ℕ) (before : State) (early : ℕ) (ray : Option (List ℤ)) (begun : State) → StandsFor d before → Begins d number before early ray begun → StandsFor d begun
 begun_stands d number before early ray begun stands (Onward later none_early no_ray same) = subst (StandsFor d) (sym same) stands
 begun_stands d number before early ray begun stands (WithCosts first no_ray (inl h)) = subst (StandsFor d) (sym h.same) stands
@@ -80,5 +70,4 @@ begun-without-law d number before early shown begun (WithCosts first no_ray h) =
 begun-without-law d number before early shown begun (WithoutCosts first ray is h) = h.reset.costs
 
 pub shown-ray-law : ShownRayLaw
-shown-ray-law d s pivots ray formed arcs start board h =
-    subst (Ray d) (sym h.ray_is) (ray-law d h.shown (on-directions-law d s pivots h.shown arcs (stands_first d s start) h.found.solved.run) h.found.solved.ended h.found.falls)
+shown-ray-law d s pivots ray formed arcs start board h = subst (Ray d) (sym h.ray_is) (is_ray d s pivots h.shown arcs start h.found)

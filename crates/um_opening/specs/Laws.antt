@@ -15,11 +15,11 @@ use Rattle.um_opening.specs.Numbers.{Begins, MayGoOn}
 abbrev pub BegunLaw : Type 0
 BegunLaw = (d : DeckValue) (number : ℕ) (before : State) (early : ℕ) (ray : Option (List ℤ)) (begun : State) → d.arcs ≡ [] → MayGoOn d number before → Begins d number before early ray begun → MayBegin d begun
 
--- A number that shows no ray is begun with the given costs if it is number 1, and with those of the board if it is a later one.
+-- A number that shows no ray is begun with the given costs: number 1 always, and a later one on a board that takes them.
 abbrev pub BegunCostsLaw : Type 0
 BegunCostsLaw = (d : DeckValue) (number : ℕ) (before : State) (early : ℕ) (begun : State) → d.arcs ≡ [] → MayGoOn d number before → Begins d number before early None begun → (number ≢ 1 → before.costs ≡ Given) → begun.costs ≡ Given
 
--- A number that shows a ray is begun without costs, and so is a later one on a board that takes none.
+-- A number that shows a ray is begun without costs.
 abbrev pub BegunWithoutLaw : Type 0
 BegunWithoutLaw = (d : DeckValue) (number : ℕ) (before : State) (early : ℕ) (shown : List ℤ) (begun : State) → Begins d number before early (Some shown) begun → begun.costs ≡ Nothing
 

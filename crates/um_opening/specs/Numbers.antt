@@ -28,26 +28,26 @@ pub record IsNumberRun (d : DeckValue) (number : ℕ) (before : State) (pivots :
   pub adds : pivots ≡ early + steps
   pub holds : Holds begun early steps
 
--- the search stopped at its opening, under number 1
-pub record IsStoppedFirst (d : DeckValue) (number : ℕ) (before : State) (pivots left : ℕ) (cause : Why) : Type 0 where
+-- the search stopped at its opening, under number 1, which led the board from one state to the other
+pub record IsStoppedFirst (d : DeckValue) (number : ℕ) (before : State) (pivots left : ℕ) (cause : Why) (after : State) : Type 0 where
   pub first : number ≡ 1
-  pub stopped : StoppedOpening d before pivots left cause
+  pub stopped : StoppedOpening d before pivots left cause after
 
 -- the parts of a ray, if there is one
 abbrev pub parts_of : Option (Listed ℤ) → Option (List ℤ)
 parts_of ray = option_map (λ (r : Listed ℤ). r.items) ray
 
 -- the node was not begun, as the search stopped at its opening; no multipliers are read
-pub record NotBegun (d : DeckValue) (before : State) (pivots left number : ℕ) (e : NumberEnd) : Type 0 where
+pub record NotBegun (d : DeckValue) (before : State) (pivots left number : ℕ) (e : NumberEnd) (after : State) : Type 0 where
   pub cause : Why
-  pub stopped : IsStoppedFirst d number before pivots left cause
+  pub stopped : IsStoppedFirst d number before pivots left cause after
   pub end_is : e.end ≡ end.Stopped cause None
   pub no_ray : e.ray ≡ None
 
 -- the node of this number ended so, with the board led from one state to the other, after so many pivots of those that were left
 abbrev pub NumberEndedAs : DeckValue → BoxValue → State → ℕ → ℕ → ℕ → NumberEnd → State → Type 0
 NumberEndedAs d b before pivots left number e after =
-    IsNumberRun d number before pivots (parts_of e.ray) (λ begun early steps. EndedAs d b begun early steps (left - early) number e.end after) ⊎ NotBegun d before pivots left number e
+    IsNumberRun d number before pivots (parts_of e.ray) (λ begun early steps. EndedAs d b begun early steps (left - early) number e.end after) ⊎ NotBegun d before pivots left number e after
 
 -- a board on which the node of this number may be solved: a board that starts for number 1, and for every later one a board on which a node may be begun
 pub record MayGoOn (d : DeckValue) (number : ℕ) (s : State) : Type 0 where

@@ -33,44 +33,40 @@ pub record IsOpenWithout (d : DeckValue) (s : State) (pivots : ℕ) (ray : List 
 
 -- ---- where the search stops at its opening
 
--- a step of the start problem is due after all pivots that were left
-pub record IsSpent (d : DeckValue) (s : State) (pivots left : ℕ) : Type 0 where
-  pub state : State
-  pub out : IsOutOfPivots d s pivots 0 state
+-- a step of the start problem is due in state t, after all pivots that were left
+pub record IsSpent (d : DeckValue) (s : State) (pivots left : ℕ) (t : State) : Type 0 where
+  pub out : IsOutOfPivots d s pivots 0 t
   pub all : pivots ≡ left
 
--- an operation of the start problem is out of range after so many steps, and the state at hand is wide
-pub record IsWideStart (d : DeckValue) (s : State) (pivots told step : ℕ) (w : Wide) : Type 0 where
-  pub state : State
-  pub refused : IsRefusedStart d s pivots state w
+-- an operation of the start problem is out of range after so many steps, in state t
+pub record IsWideStart (d : DeckValue) (s : State) (pivots told step : ℕ) (w : Wide) (t : State) : Type 0 where
+  pub refused : IsRefusedStart d s pivots t w
   pub first : told ≡ 1
   pub at : step ≡ pivots
 
--- the start problem has ended with a least value below 0, and the board is not made anew: an operation is out of range, and the state before or after that is wide
-pub record IsWideReset (d : DeckValue) (s : State) (pivots told step : ℕ) (w : Wide) : Type 0 where
-  pub shown : State
-  pub found : HasRay d s pivots shown
-  pub refused : IsRefusedAct shown (IsReset Nothing shown) w
+-- the start problem has ended in state t with a least value below 0, and there the board stays, as it is not made anew: an operation is out of range, and the state before or after that is wide
+pub record IsWideReset (d : DeckValue) (s : State) (pivots told step : ℕ) (w : Wide) (t : State) : Type 0 where
+  pub found : HasRay d s pivots t
+  pub refused : IsRefusedAct t (IsReset Nothing t) w
   pub first : told ≡ 1
   pub at : step ≡ pivots
 
--- a number of the ray is 2^62 or larger in size
-pub record IsLargeRay (d : DeckValue) (s : State) (pivots : ℕ) : Type 0 where
-  pub shown : State
-  pub found : HasRay d s pivots shown
-  pub large : ¬ AreRayNumbers (direction shown)
+-- the start problem has ended in state t and shows a ray; a number of it is 2^62 or larger in size
+pub record IsLargeRay (d : DeckValue) (s : State) (pivots : ℕ) (t : State) : Type 0 where
+  pub found : HasRay d s pivots t
+  pub large : ¬ AreRayNumbers (direction t)
 
--- the cause for which the search stopped at its opening, after so many pivots of those that were left
-abbrev pub StoppedOpening : DeckValue → State → ℕ → ℕ → Why → Type 0
-StoppedOpening d s pivots left why.Nodes = ⊥
-StoppedOpening d s pivots left why.Pivots = IsSpent d s pivots left
-StoppedOpening d s pivots left (why.Points column) = ⊥
-StoppedOpening d s pivots left (why.Grid told) = ⊥
-StoppedOpening d s pivots left (why.Pivot told step wide) = IsWideStart d s pivots told step wide
-StoppedOpening d s pivots left (why.Value told step wide) = IsWideReset d s pivots told step wide
-StoppedOpening d s pivots left (why.Leaf told) = ⊥
-StoppedOpening d s pivots left (why.Vertex told) = ⊥
-StoppedOpening d s pivots left why.Ray = IsLargeRay d s pivots
+-- the cause for which the search stopped at its opening, with the board led from s to t, after so many pivots of those that were left
+abbrev pub StoppedOpening : DeckValue → State → ℕ → ℕ → Why → State → Type 0
+StoppedOpening d s pivots left why.Nodes t = ⊥
+StoppedOpening d s pivots left why.Pivots t = IsSpent d s pivots left t
+StoppedOpening d s pivots left (why.Points column) t = ⊥
+StoppedOpening d s pivots left (why.Grid told) t = ⊥
+StoppedOpening d s pivots left (why.Pivot told step wide) t = IsWideStart d s pivots told step wide t
+StoppedOpening d s pivots left (why.Value told step wide) t = IsWideReset d s pivots told step wide t
+StoppedOpening d s pivots left (why.Leaf told) t = ⊥
+StoppedOpening d s pivots left (why.Vertex told) t = ⊥
+StoppedOpening d s pivots left why.Ray t = IsLargeRay d s pivots t
 
 -- ---- all together
 
@@ -78,4 +74,4 @@ StoppedOpening d s pivots left why.Ray = IsLargeRay d s pivots
 abbrev pub OpenedAs : DeckValue → State → ℕ → ℕ → Opened → State → Type 0
 OpenedAs d s pivots left opened.WithCosts t = IsOpenWithCosts d s pivots t
 OpenedAs d s pivots left (opened.WithRay ray) t = IsOpenWithout d s pivots ray.items t
-OpenedAs d s pivots left (opened.Stopped cause) t = StoppedOpening d s pivots left cause
+OpenedAs d s pivots left (opened.Stopped cause) t = StoppedOpening d s pivots left cause t

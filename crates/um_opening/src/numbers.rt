@@ -1,6 +1,6 @@
 //! The node of a number.
 
-ghost use Rattle.std.specs.Prelude.{◌≡◌, ◌-◌, ◌≤◌, ◌<◌, ◌^◌, [], pos, IfOk};
+ghost use Rattle.std.specs.Prelude.{◌≡◌, ◌-◌, ◌≤◌, [], IfOk};
 ghost use Rattle.um_lp.specs.Relaxations.{frame_of};
 ghost use Rattle.um_duality.specs.Relaxed.{deck_frame};
 ghost use Rattle.um_model.specs.Boxes.{IsVoid};
@@ -44,7 +44,7 @@ pub fn solve_number<B: Board>(
     requires goes_on { MayGoOn node.now.deck number (B.state board.old) }
     requires full { ¬ IsVoid node.now.deck node.now.limits }
     requires within { IsWithinRoot node.now.deck node.now.limits }
-    ensures falls { left.new ≤ left.old }
+    ensures spends { left.new ≤ left.old }
     ensures same { relaxation.new ≡ relaxation.old }
     ensures ending { IfOk result (λ e. NumberEndedAs node.now.deck node.now.limits (B.state board.old) (left.old - left.new) left.old number e (B.state board.new)) }
 {

@@ -26,7 +26,7 @@ pub enum Opened {
 
 /// Opens a board that starts: solves the start problem where a cost wants an infinite end, and makes the
 /// board anew without costs where that shows a ray. Each pivot takes one from `left`. After a stop the board
-/// is at the state that the steps have reached. The error is want of memory.
+/// is as the start problem left it. The error is want of memory.
 pub fn open<B: Board>(
     alloc: Global,
     relaxation: &Relaxation,
@@ -37,7 +37,7 @@ pub fn open<B: Board>(
     requires no_arcs { d.arcs ≡ [] }
     requires relaxed { IsRelaxationOf d relaxation.now }
     requires starts { IsStart (deck_frame d) (B.state board.old) }
-    ensures falls { left.new ≤ left.old }
+    ensures spends { left.new ≤ left.old }
     ensures opened { IfOk result (λ opened. OpenedAs d (B.state board.old) (left.old - left.new) left.old opened (B.state board.new)) }
     ensures keeps { B.Keeps board.old board.new }
 {

@@ -6,4 +6,5 @@ pub mod ReadEnds
 pub mod Sides
 pub mod Slopes
 pub mod StartRuns
+pub mod StartSays
 pub mod Values

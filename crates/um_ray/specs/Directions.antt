@@ -18,9 +18,11 @@ abbrev pub still : Option ℤ → Option ℤ
 still None = None
 still (Some side) = Some (pos 0)
 
+-- a column of the deck; its ends are how far it may fall and rise
 abbrev pub moving_column : ColumnValue → ColumnValue
 moving_column c = record c { low = fall c.low; high = rise c.high }
 
+-- a row of the deck; each of its sides that is there is 0
 abbrev pub moving_row : Row → Row
 moving_row r = record r { low = still r.low; high = still r.high }
 

@@ -1,5 +1,6 @@
 -- What a start says of the deck.
-use Rattle.std.specs.Prelude.{◌≡◌, ℕ, pos, ◌≤ℤ◌, ◌<ℤ◌, ◌↔◌, []}
+use Rattle.std.specs.Prelude.{◌≡◌, ℕ, ℤ, pos, ◌≤ℤ◌, ◌<ℤ◌, ◌↔◌, []}
+use Rattle.um_num.specs.Listed.{Listed}
 use Rattle.um_model.specs.Values.{DeckValue}
 use Rattle.um_model.specs.Boxes.{root}
 use Rattle.um_model.specs.Rays.{Ray}
@@ -12,9 +13,10 @@ use Rattle.um_duality.specs.Relaxed.{StandsFor, deck_frame}
 use Rattle.um_relax.specs.Reboxings.{WantsFiniteEnds}
 use Rattle.um_ray.specs.Directions.{directions}
 use Rattle.um_ray.specs.Rays.{direction, slope}
-use Rattle.um_ray.specs.Starts.{WantsOwnEnds, IsStartRun}
+use Rattle.um_ray.specs.Starts.{WantsOwnEnds, IsStartRun, StartedAs}
+use Rattle.um_ray.specs.declared.starting.Started.TheVariants as started
 
--- The reduced costs of any board want finite ends of the start problem, as all ends of its columns are.
+-- On a board that starts, the ends of the start problem that reduced costs want are finite: all ends of its columns are, and each slack is basic.
 abbrev pub MayStartLaw : Type 0
 MayStartLaw = (d : DeckValue) (s : State) → IsStart (deck_frame d) s → IsBoard s → WantsFiniteEnds (directions d) (root (directions d)) s
 
@@ -37,3 +39,17 @@ LevelLaw = (d : DeckValue) (t : State) → IsOnBox (directions d) (root (directi
 -- Where it is below 0 at the end, the direction is a ray.
 abbrev pub RayLaw : Type 0
 RayLaw = (d : DeckValue) (t : State) → IsOnBox (directions d) (root (directions d)) t → IsNext t Ended → slope d t <ℤ pos 0 → Ray d (direction t)
+
+-- ---- what a start answers
+
+-- Where it is ready, each end of the deck that a reduced cost wants is finite, on the board as the start left it.
+abbrev pub StartedReadyLaw : Type 0
+StartedReadyLaw = (d : DeckValue) (s : State) (pivots left : ℕ) (t : State) → d.arcs ≡ [] → IsStart (deck_frame d) s → StartedAs d s pivots left started.Ready t → WantsOwnEnds d t
+
+-- The ray that it hands out is a ray of the deck.
+abbrev pub StartedRayLaw : Type 0
+StartedRayLaw = (d : DeckValue) (s : State) (pivots left : ℕ) (ray : Listed ℤ) (t : State) → d.arcs ≡ [] → IsStart (deck_frame d) s → StartedAs d s pivots left (started.Ray ray) t → Ray d ray.items
+
+-- Where a number is too large, the direction is a ray of the deck, too.
+abbrev pub StartedLargeLaw : Type 0
+StartedLargeLaw = (d : DeckValue) (s : State) (pivots left : ℕ) (t : State) → d.arcs ≡ [] → IsStart (deck_frame d) s → StartedAs d s pivots left started.Large t → Ray d (direction t)

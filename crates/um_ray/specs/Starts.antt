@@ -97,6 +97,7 @@ pub record IsLastRefused (d : DeckValue) (s : State) (pivots : ℕ) (t : State) 
   pub solved : IsSolved d s pivots t
   pub refused : IsRefusedAt t w
 
+-- an operation is out of range: at the reading of the first state, at the ends of the start problem, at a step, or at the reading of the last state
 abbrev pub IsRefusedStart : DeckValue → State → ℕ → State → Wide → Type 0
 IsRefusedStart d s pivots t w = IsFirstRefused s pivots t w ⊎ AreEndsRefused d s pivots t w ⊎ IsStepRefused d s pivots t w ⊎ IsLastRefused d s pivots t w
 

@@ -1,6 +1,6 @@
 //! The ends of the start problem, and whether it is needed.
 
-ghost use Rattle.std.specs.Prelude.{◌≡◌, ◌<◌, ◌+◌, ◌↔◌, [], length, IfOk, IfErr, OnOk, IsTrue, IsSome, pos, ◌<ℤ◌};
+ghost use Rattle.std.specs.Prelude.{◌≡◌, ◌<◌, ◌+◌, ◌↔◌, length, IfOk, IfErr, OnOk, IsTrue, IsSome, pos, ◌<ℤ◌};
 ghost use Rattle.std.specs.Option.{ForSome};
 ghost use Rattle.um_num.specs.Numbers.{IsInRange};
 ghost use Rattle.um_model.specs.Values.{DeckValue};

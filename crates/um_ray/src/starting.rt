@@ -1,17 +1,15 @@
 //! The start problem, solved on a board.
 
-ghost use Rattle.std.specs.Prelude.{◌≡◌, ◌≢◌, ◌-◌, ◌^◌, ◌≤◌, ◌<ℤ◌, pos, [], IfOk, IfErr};
+ghost use Rattle.std.specs.Prelude.{◌≡◌, ◌≢◌, ◌-◌, ◌^◌, ◌≤◌, ◌<ℤ◌, pos, [], IfOk};
 ghost use Rattle.um_model.specs.Values.{DeckValue};
 ghost use Rattle.um_model.specs.Boxes.{root};
 ghost use Rattle.um_lp.specs.Boards.{IsStart};
-ghost use Rattle.um_lp.specs.DualSteps.{IsNext, Ended as HasEnded};
-ghost use Rattle.um_lp.specs.Refusals.{IsRefusedAt};
 ghost use Rattle.um_lp.specs.States.{width};
 ghost use Rattle.um_duality.specs.Laws.{IsOnBox};
 ghost use Rattle.um_duality.specs.Relaxed.{StandsFor, deck_frame};
 ghost use Rattle.um_relax.specs.Relaxations.{IsRelaxationOf};
 ghost use Rattle.um_ray.specs.Directions.{directions};
-ghost use Rattle.um_ray.specs.Rays.{column_values, slope};
+ghost use Rattle.um_ray.specs.Rays.{slope};
 ghost use Rattle.um_ray.specs.Starts.{WantsOwnEnds, EndedAs, StartedAs, IsRead};
 
 use crate::ends::{put_start_ends, wants_own_ends};
@@ -52,7 +50,7 @@ pub fn start<B: Board>(
     requires no_arcs { d.arcs ≡ [] }
     requires relaxed { IsRelaxationOf d relaxation.now }
     requires starts { IsStart (deck_frame d) (B.state board.old) }
-    ensures falls { left.new ≤ left.old }
+    ensures spends { left.new ≤ left.old }
     ensures started { IfOk result (λ started. StartedAs d (B.state board.old) (left.old - left.new) left.new started (B.state board.new)) }
     ensures enough { 3 ^ width (B.state board.old).frame ≤ left.old → IfOk result (λ started. started ≢ Started.OutOfPivots) }
     ensures keeps { B.Keeps board.old board.new }
@@ -76,7 +74,7 @@ fn solve_start<B: Board>(
     requires relaxed { IsRelaxationOf d relaxation.now }
     requires starts { IsStart (deck_frame d) (B.state board.old) }
     requires needed { ¬ WantsOwnEnds d (B.state board.old) }
-    ensures falls { left.new ≤ left.old }
+    ensures spends { left.new ≤ left.old }
     ensures started { IfOk result (λ started. StartedAs d (B.state board.old) (left.old - left.new) left.new started (B.state board.new)) }
     ensures enough { 3 ^ width (B.state board.old).frame ≤ left.old → IfOk result (λ started. started ≢ Started.OutOfPivots) }
     ensures keeps { B.Keeps board.old board.new }

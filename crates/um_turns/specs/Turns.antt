@@ -46,7 +46,7 @@ IsStoppedRun d b t pivots number cause own = IsNumberRun d number t.before pivot
 
 -- the search stopped at its opening, before the node's box was put on the board; no multipliers are read
 pub record IsStoppedOpening (d : DeckValue) (t : Turn) (pivots number : ℕ) (cause : Why) (own : Option MultipliersValue) : Type 0 where
-  pub stopped : IsStoppedFirst d number t.before pivots t.left cause
+  pub stopped : IsStoppedFirst d number t.before pivots t.left cause t.after
   pub unread : own ≡ None
   pub no_ray : t.ray ≡ None
 

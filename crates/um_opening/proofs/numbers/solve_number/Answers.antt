@@ -63,7 +63,7 @@ returns-clause-ending g c =
     let one : c.args.number ≡ 1 = omega (arith, c.if-number-ne1.false) in
     let at : (o : Opened) → c.in_ok-open.field-0 ≡ o → OpenedAs g.d s early c.args.left.now o t = λ o e. subst (λ (x : Opened). OpenedAs g.d s early c.args.left.now x t) e c.in_ok-open.ensures.opened in
     ran d c.args.node.now.limits s t (g.B.Board.state c.solve_node-2.new.board) c.args.left.now c.open.new.left c.solve_node-2.new.left c.args.number (record { end = c.in_ok-end-2.end; ray = c.match-branch-3.ray })
-    c.open.ensures.falls c.solve_node-2.ensures.falls
+    c.open.ensures.spends c.solve_node-2.ensures.falls
     (elim c.match-branch-3.branch [
       | in-WithCosts w ↦ subst (λ (r : Option (Listed ℤ)). Begins d c.args.number s early (parts_of r) t) (sym w.ray-is) (with_costs g.d d c.args.number s early t c.requires.1.0 one (at opened.WithCosts w.in-WithCosts.is))
       | in-WithRay w ↦ subst (λ (r : Option (Listed ℤ)). Begins d c.args.number s early (parts_of r) t) (sym w.ray-is) (with_ray g.d d c.args.number s early w.in-WithRay.ray.items t c.requires.1.0 one (at (opened.WithRay w.in-WithRay.ray) w.in-WithRay.is))
