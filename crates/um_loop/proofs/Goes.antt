@@ -44,7 +44,7 @@ use Rattle.um_turns.specs.Turns.{Turn, TurnEnd, Reached, Emptied, Halted, RunSto
 use Rattle.um_turns.specs.Histories.{History, IsHistory, AreFinished, IsBest, state_behind, left_behind}
 use Rattle.um_turns.specs.Laws.{HasShown}
 use Rattle.um_turns.proofs.Going.{shown_first, shown as shown_law}
-use Rattle.um_turns.specs.NextTurns.{IsNoBetter}
+use Rattle.um_turns.specs.NextTurns.{IsNextTurn, IsNoBetter}
 use Rattle.um_turns.proofs.Bests.{best_stays, best_improves}
 use Rattle.um_loop.specs.declared.search.Search.{Search}
 use Rattle.um_loop.specs.declared.search.Halt.{Halt}
@@ -55,7 +55,7 @@ use Rattle.um_loop.specs.Steps.{IsBestOf, IsNotClosing, HasOwn, IsKept, StoppedW
 use Rattle.um_loop.proofs.KeysClose.{key_closes, key_bound, new_below, vertex_closes}
 use Rattle.um_loop.proofs.NeededTurns.{none_closes}
 use Rattle.um_loop.proofs.Results.{ok_map}
-use Rattle.um_loop.proofs.Settled.{own_waits, own_key, halts, leaf_goes, split_goes}
+use Rattle.um_loop.proofs.Settled.{ray_more, own_waits, own_key, halts, leaf_goes, split_goes}
 
 -- a stop of the run is one of the turn
 halt_of : (d : DeckValue) (b : BoxValue) (begun after : State) (early steps left number : ℕ) (cause : Why) (own : Option MultipliersValue) → StoppedBy d b begun early steps left number cause own → RunStopped d b begun after early steps left number cause own
@@ -136,6 +136,11 @@ still_none : (d : DeckValue) (p : PointValue) (old new : Option Incumbent) → I
 still_none d p old new (inl n) infeasible none = absurd (infeasible n.feasible)
 still_none d p old new (inr o) infeasible none = subst (λ (x : Option Incumbent). IsNone x) (sym o.same) none
 
+-- where there is no best point, no vertex is feasible
+none_feasible : (d : DeckValue) (history : History) (best : Option Incumbent) → IsNone best → IsBest d history best → IsBest d history None
+none_feasible d history None none best = best
+none_feasible d history (Some i) none best = absurd (cc)
+
 -- at most one entry waits for a child
 one_more : (d : DeckValue) (b : BoxValue) (id : ℕ) (w : WhatValue) (more : List OpenNode) → ChildWaits d b id w more → length more ≤ 1
 one_more d b id (Split branch) more c = absurd c
@@ -184,20 +189,34 @@ module _ (d : DeckValue) (start : State) (most : ℕ) (taken : OpenNode) (s : Se
       placed : OpenIs d box y
       placed = record { full = t.waits.bounds.full; small = read.below; y0 = read.says.positive }
 
+      next_turn : IsNextTurn d start most s.growth history taken.node number
+      next_turn = record { at = refl; before = t.going.board_is; left = t.going.left_is; few = subst (λ (k : ℕ). pivots ≤ k) t.going.left_is within; run = run; handed = t.handed }
+
       -- of a deck with a ray the vertex is feasible
       found_on : (point : Point) (x : Search) → IsFoundVertex d counted_search p point x → HasFound d start most x (plain_point point)
       found_on point x f =
           let ray = some_of kept f.ray in
-          record {
-            starts = t.going.told.starts;
-            board = t.going.told.board;
+          let kept_ray = sym kept_is ∙ ap parts_of ray.1 in
+          subst (λ (z : Search). HasFound d start most z (plain_point point)) (sym f.after_is) (record {
+            history = history;
+            last = number;
+            search = t.going.search;
+            told = t.going.told;
+            finished = t.going.finished;
+            unnumbered = t.going.unnumbered;
+            lineage = t.going.lineage;
+            none_before = none_feasible d history s.incumbent (no_old f.ray) t.going.best;
+            next = next_turn;
+            own = y;
+            end = ap (λ (q : PointValue). Reached q y) (sym f.same);
+            solved = let counted = t.going.solved in omega (arith, counted);
             ray = ray.0;
-            ray_is = ap (λ (z : Search). z.ray) f.after_is ∙ ray.1;
-            shown = shown_by d start most s.growth history pivots left board (parts_of shown) (λ begun early steps. AtVertex d box begun steps after p y) ray.0.items t.going.told t.going.finished t.going.board_is t.going.left_is within run
-                (sym kept_is ∙ ap parts_of ray.1);
+            ray_is = ray.1;
+            first = ray_more history number ∙ kept_ray;
+            shown = shown_by d start most s.growth history pivots left board (parts_of shown) (λ begun early steps. AtVertex d box begun steps after p y) ray.0.items t.going.told t.going.finished t.going.board_is t.going.left_is within run kept_ray;
             feasible = subst (Feasible d) (sym f.same) f.feasible;
             small = subst IsSmallPoint (sym f.same) read.small;
-          }
+          })
 
       module _ (tight : Feasible d p → VertexSays d box p y) (not_found : IsSome kept → ¬ Feasible d p) (best : Option Incumbent) (best_is : IsBestOf d p s.incumbent best) where
         searching : IsSearch Turn d (pos 0) history (Some taken.node) s.growth s.open best s.least

@@ -50,23 +50,23 @@ run_stop d b before early pivots left number (why.Vertex told) own h = tt
 run_stop d b before early pivots left number why.Ray own h = tt
 
 -- at the opening
-first_stop : (d : DeckValue) (before : State) (pivots left : ℕ) (cause : Why) → StoppedOpening d before pivots left cause → IsNoGrid cause
-first_stop d before pivots left why.Nodes h = tt
-first_stop d before pivots left why.Pivots h = tt
-first_stop d before pivots left (why.Points column) h = tt
-first_stop d before pivots left (why.Grid told) h = absurd h
-first_stop d before pivots left (why.Pivot told step wide) h = tt
-first_stop d before pivots left (why.Value told step wide) h = tt
-first_stop d before pivots left (why.Leaf told) h = tt
-first_stop d before pivots left (why.Vertex told) h = tt
-first_stop d before pivots left why.Ray h = tt
+first_stop : (d : DeckValue) (before : State) (pivots left : ℕ) (cause : Why) (after : State) → StoppedOpening d before pivots left cause after → IsNoGrid cause
+first_stop d before pivots left why.Nodes after h = tt
+first_stop d before pivots left why.Pivots after h = tt
+first_stop d before pivots left (why.Points column) after h = tt
+first_stop d before pivots left (why.Grid told) after h = absurd h
+first_stop d before pivots left (why.Pivot told step wide) after h = tt
+first_stop d before pivots left (why.Value told step wide) after h = tt
+first_stop d before pivots left (why.Leaf told) after h = tt
+first_stop d before pivots left (why.Vertex told) after h = tt
+first_stop d before pivots left why.Ray after h = tt
 
 cause_same : (a b : Why) (own : Option Multipliers) → end.Stopped a own ≡ end.Stopped b None → b ≡ a
 cause_same a b own e = cc
 
 number_stop : (d : DeckValue) (b : BoxValue) (before : State) (pivots left number : ℕ) (cause : Why) (own : Option Multipliers) (shown : Option (Listed ℤ)) (after : State) → NumberEndedAs d b before pivots left number (record { end = end.Stopped cause own; ray = shown }) after → IsNoGrid cause
 number_stop d b before pivots left number cause own shown after (inl r) = run_stop d b r.begun r.early r.steps (left - r.early) number cause (option_map plain_multipliers own) r.holds
-number_stop d b before pivots left number cause own shown after (inr n) = subst IsNoGrid (cause_same cause n.cause own n.end_is) (first_stop d before pivots left n.cause n.stopped.stopped)
+number_stop d b before pivots left number cause own shown after (inr n) = subst IsNoGrid (cause_same cause n.cause own n.end_is) (first_stop d before pivots left n.cause after n.stopped.stopped)
 
 module _ (d : DeckValue) (b : BoxValue) (before : Search) (taken : OpenNode) (solved : Solved) (board : State) (pivots left number : ℕ) (shown : Option (Listed ℤ)) (state : State) (after : Search) where
   stopped : (cause : Why) (own : Option MultipliersValue) (led : Option Ending) → IsNoGrid cause → StoppedWith d b before taken solved cause own led after → IfSome led IsNoGridEnding

@@ -1,5 +1,5 @@
 -- A search that goes on, or stopped early, with a history that no code keeps.
-use Rattle.std.specs.Prelude.{◌≡◌, ℕ, suc, ◌+◌, ◌-◌, ◌<◌, ◌≤◌, ℤ, pos, ◌⊎◌, List, [], ◌∷◌, length, Option, Some, None, IsSome, IsNone, option_map}
+use Rattle.std.specs.Prelude.{◌≡◌, ℕ, suc, ◌+◌, ◌-◌, ◌<◌, ◌≤◌, ℤ, pos, ◌⊎◌, List, [], ◌∷◌, ◌++◌, length, Option, Some, None, IsSome, IsNone, option_map}
 use Rattle.um_num.specs.Listed.{Listed}
 use Rattle.um_multipliers.specs.PlainMultipliers.{MultipliersValue, plain_multipliers}
 use Rattle.um_model.specs.Values.{DeckValue, PointValue, plain_point}
@@ -8,17 +8,17 @@ use Rattle.um_model.specs.Accepted.{IsSmallPoint}
 use Rattle.um_model.specs.declared.answer.Why.{Why}
 use Rattle.um_model.specs.declared.answer.Why.TheVariants as why
 use Rattle.um_lp.specs.States.{State}
-use Rattle.um_lp.specs.Boards.{IsBoard, IsStart}
-use Rattle.um_duality.specs.Relaxed.{deck_frame}
 use Rattle.um_tree.specs.Growths.{GrowthValue, origin_at}
 use Rattle.um_cover.specs.Sites.{way, box_at}
 use Rattle.um_nodes.specs.declared.open_nodes.OpenNode.{OpenNode}
 use Rattle.um_progress.specs.Waits.{Every, WaitsIn}
+use Rattle.um_progress.specs.Numbers.{Number}
 use Rattle.um_progress.specs.Searches.{IsSearch}
 use Rattle.um_progress.specs.Lineage.{IsLineage}
 use Rattle.um_opening.specs.Numbers.{parts_of}
-use Rattle.um_turns.specs.Turns.{Turn, Halted, EndHolds, kept_multipliers}
+use Rattle.um_turns.specs.Turns.{Turn, Reached, Halted, EndHolds, kept_multipliers}
 use Rattle.um_turns.specs.Histories.{History, IsHistory, AreFinished, AreHanded, IsHanded, IsBest, state_behind, left_behind, ray_of}
+use Rattle.um_turns.specs.NextTurns.{IsNextTurn}
 use Rattle.um_turns.specs.Laws.{HasShown}
 use Rattle.um_loop.specs.declared.search.Search.{Search}
 use Rattle.um_loop.specs.declared.search.Halt.{Halt}
@@ -151,12 +151,32 @@ HasStopped d start most nodes s halt board left = HasSpent d start most nodes s 
 
 -- ---- a feasible point of a deck with a ray
 
--- the start problem, on the board with which the search began, has shown the ray, and the point is feasible; its numbers are small
+-- The search found the point in the last turn: the first turn has shown a ray, and this one ended at a feasible vertex, as none before did. Its node is open in the tree and has no number there. The history is that of the turns before.
+--   search, told, finished, unnumbered, lineage: as of a search that goes on, with the node of the last turn in hand
+--   none_before: no vertex of the turns before is feasible
+--   next: the last turn is the next one of its node: it began where the turn before ended, with the pivots that were left
+--   own, end: it ended at the point, with these multipliers
+--   solved: it is counted, too
+--   ray, ray_is: the ray that the search keeps
+--   first: it is the one that the first turn has shown, which may be the last turn itself
+--   shown: the start problem has shown it, on the board with which the search began
+--   feasible, small: the point is feasible, and its numbers are small
 pub record HasFound (d : DeckValue) (start : State) (most : ℕ) (s : Search) (p : PointValue) : Type 0 where
-  pub starts : IsStart (deck_frame d) start
-  pub board : IsBoard start
+  pub history : History
+  pub last : Number Turn
+  pub search : IsSearch Turn d (pos 0) history (Some last.id) s.growth s.open s.incumbent s.least
+  pub told : IsHistory d start most s.growth history
+  pub finished : AreFinished history
+  pub unnumbered : AreUnnumbered s.growth history
+  pub lineage : IsLineage s.growth
+  pub none_before : IsBest d history None
+  pub next : IsNextTurn d start most s.growth history last.id last
+  pub own : MultipliersValue
+  pub end : last.told.end ≡ Reached p own
+  pub solved : s.solved ≡ suc (length history)
   pub ray : Listed ℤ
   pub ray_is : s.ray ≡ Some ray
+  pub first : ray_of (history ++ last ∷ []) ≡ Some ray.items
   pub shown : HasShown d start most ray.items
   pub feasible : Feasible d p
   pub small : IsSmallPoint p

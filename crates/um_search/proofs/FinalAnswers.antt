@@ -25,8 +25,8 @@ use Rattle.um_progress.specs.declared.incumbent.Incumbent.{Incumbent}
 use Rattle.um_progress.specs.Waits.{id_of}
 use Rattle.um_progress.specs.Numbers.{IsNumbered}
 use Rattle.um_progress.specs.Ends.{point_of, stopped}
-use Rattle.um_progress.specs.Searches.{objective_of, IsIncumbent, IsBounded, IsSearch}
-use Rattle.um_progress.specs.Stops.{bound_of, IsStopping}
+use Rattle.um_progress.specs.Searches.{objective_of, IsIncumbent, IsBounded, IsClosedAt, IsSearch}
+use Rattle.um_progress.specs.Stops.{bound_of, IsBoundOfOne, IsStopping}
 use Rattle.um_progress.proofs.Settling.{optimal_accepted, infeasible_accepted, stopped_accepted}
 use Rattle.um_turns.specs.Turns.{Turn}
 use Rattle.um_turns.specs.Histories.{History, IsHistory, AreFinished, ray_of}
@@ -34,13 +34,15 @@ use Rattle.um_loop.proofs.Settled.{some_kept}
 use Rattle.um_search.specs.declared.budget.Budget.{Budget}
 use Rattle.um_loop.specs.declared.search.Search.{Search}
 use Rattle.um_loop.specs.Goings.{IsNoGrid}
-use Rattle.um_search.specs.Told.{IsHaltedLast, IsEndedBy, HasSpentNodes, HasSpentPivots, TellsSearch, TellsOf, TellsAnswer}
+use Rattle.um_search.specs.Told.{IsHaltedLast, IsEndedBy, HasSpentNodes, HasSpentPivots, OpenLeavesAreHanded, HaveOneAndNone, TellsSearch, TellsOf, TellsAnswer}
 use Rattle.um_loop.specs.Checkables.{AreCheckable}
 use Rattle.um_search.specs.Emptying.{IsOver, IsFound, kind_of_over, AreHandedBut, HasHand, IsEmptying}
 use Rattle.um_turns.proofs.Chains.{pivots_all}
 use Rattle.um_search.proofs.SpentPivots.{pivots_spent}
 use Rattle.um_search.proofs.SpentNodes.{none_solved}
 use Rattle.um_search.proofs.HandedLeaves.{none_but}
+use Rattle.um_search.proofs.EndlessLeaves.{least_none, bound_none}
+use Rattle.um_search.proofs.PlainLeaves.{have_one_and_none, no_bounds}
 
 pub record AnswersFor (d : DeckValue) (budget : Budget) (a : AnswerValue) : Type 0 where
   pub accepted : IsAccepted d a
@@ -117,6 +119,20 @@ module _ (d : DeckValue) (formed : IsDeck d) (no_arcs : d.arcs ≡ []) (budget :
   accepts : IsAccepted d (over_answer s.incumbent s.least tree)
   accepts = over_accepted d no_arcs over.ran.going.history s.growth tree told s.incumbent s.least over.ran.going.found search
 
+  handed_over : OpenLeavesAreHanded s.growth over.ran.going.history
+  handed_over id inside = none_but s.growth over.ran.going.history [] search.all id inside (λ a. a)
+
+  none_over : IsSome (ray_of over.ran.going.history) → IsNone s.incumbent
+  none_over some = over.ran.going.no_best (some_kept s.ray (ray_of over.ran.going.history) over.ran.going.ray_is some)
+
+  plain_over : IsSome (ray_of over.ran.going.history) → HaveOneAndNone s.growth
+  plain_over some = have_one_and_none d formed no_arcs over.start budget.pivots s.growth s.incumbent over.ran.going.history None search.growth search.nodes search.numbered over.ran.going.told handed_over over.ran.going.finished some
+
+  no_bounds_over : IsSome (ray_of over.ran.going.history) → IsNone s.least
+  no_bounds_over some =
+      least_none (IsClosedAt d s.growth) s.least search.closed.among
+      (λ x at. no_bounds d formed no_arcs over.start budget.pivots s.growth s.incumbent over.ran.going.history None search.growth search.nodes search.numbered over.ran.going.told handed_over over.ran.going.finished some (none_over some) at.0 x at.1 at.3)
+
   over_answers : AnswersFor d budget (over_answer s.incumbent s.least tree)
   over_answers = record {
     accepted = accepts;
@@ -132,7 +148,7 @@ module _ (d : DeckValue) (formed : IsDeck d) (no_arcs : d.arcs ≡ []) (budget :
       history = over.ran.going.history;
       told = over.ran.going.told;
       numbered = search.numbered;
-      handed = λ id inside. none_but s.growth over.ran.going.history [] search.all id inside (λ a. a);
+      handed = handed_over;
       unnumbered = over.ran.going.unnumbered;
       lineage = over.ran.going.lineage;
       needed = over.ran.going.needed;
@@ -143,7 +159,9 @@ module _ (d : DeckValue) (formed : IsDeck d) (no_arcs : d.arcs ≡ []) (budget :
       pivots = let h = pivots_all over.start budget.pivots over.ran.going.history over.ran.going.told.chained in omega (arith, h);
       spent_nodes = λ e. absurd (cc);
       spent_pivots = λ e. absurd (cc);
-      no_point = λ some. no_point s.incumbent (over.ran.going.no_best (some_kept s.ray (ray_of over.ran.going.history) over.ran.going.ray_is some));
+      no_point = λ some. no_point s.incumbent (none_over some);
+      no_costs = plain_over;
+      no_bound = no_bounds_over;
     });
   }
 
@@ -175,6 +193,18 @@ module _ (d : DeckValue) (formed : IsDeck d) (no_arcs : d.arcs ≡ []) (budget :
   stop_accepts : IsAccepted d answer
   stop_accepts = stopped_accepted Turn d (pos 0) s.history g i endless least (kind_of_stop cause) cause tree stopping (tolerance d no_arcs) refl told
 
+  handed_stop : OpenLeavesAreHanded g s.history
+  handed_stop id inside = (subst (λ (xs : List OpenNode). AreHandedBut g s.history (map id_of xs)) none s.others) id inside (λ a. a)
+
+  plain_stop : IsSome (ray_of s.history) → HaveOneAndNone g
+  plain_stop some = have_one_and_none d formed no_arcs s.start budget.pivots g i s.history (Some cause) stopping.draining.growth stopping.draining.nodes stopping.draining.numbered s.told handed_stop s.ended some
+
+  no_bounds_stop : IsSome (ray_of s.history) → IsNone (bound_of endless least)
+  no_bounds_stop some =
+      bound_none endless least
+      (least_none (λ (x : Rational). IsBoundOfOne d g [] (Some x)) least stopping.draining.counted.some
+      (λ x at. no_bounds d formed no_arcs s.start budget.pivots g i s.history (Some cause) stopping.draining.growth stopping.draining.nodes stopping.draining.numbered s.told handed_stop s.ended some (s.no_best some) at.0 x at.1 at.3))
+
   stop_answers : AnswersFor d budget answer
   stop_answers = record {
     accepted = stop_accepts;
@@ -190,7 +220,7 @@ module _ (d : DeckValue) (formed : IsDeck d) (no_arcs : d.arcs ≡ []) (budget :
       history = s.history;
       told = s.told;
       numbered = stopping.draining.numbered;
-      handed = λ id inside. (subst (λ (xs : List OpenNode). AreHandedBut g s.history (map id_of xs)) none s.others) id inside (λ a. a);
+      handed = handed_stop;
       unnumbered = s.unnumbered;
       lineage = s.lineage;
       needed = s.needed;
@@ -202,6 +232,8 @@ module _ (d : DeckValue) (formed : IsDeck d) (no_arcs : d.arcs ≡ []) (budget :
       spent_nodes = λ e. spent_between d s.start budget (objective_of i) g (map id_of ws) s.history s.told stopping.draining.numbered (subst (IsEndedBy s.history) e s.ended) (s.all (cause_is cause why.Nodes e)) (s.hand (cause_is cause why.Nodes e));
       spent_pivots = λ e. spent_by d s.start budget g s.history s.told (subst (IsEndedBy s.history) e s.ended);
       no_point = λ some. no_point i (s.no_best some);
+      no_costs = plain_stop;
+      no_bound = no_bounds_stop;
     });
   }
 
@@ -217,12 +249,12 @@ module _ (d : DeckValue) (formed : IsDeck d) (no_arcs : d.arcs ≡ []) (budget :
 abbrev found_answer : PointValue → List ℤ → AnswerValue
 found_answer p ray = record { kind = Unbounded; why = None; tolerance = pos 0; objective = None; bound = None; point = Some p; ray = Some ray; tree = [] }
 
-module _ (d : DeckValue) (formed : IsDeck d) (no_arcs : d.arcs ≡ []) (budget : Budget) (s : Search) (p : PointValue) (is : IsFound d budget.pivots s p) where
+module _ (d : DeckValue) (formed : IsDeck d) (no_arcs : d.arcs ≡ []) (budget : Budget) (s : Search) (p : PointValue) (is : IsFound d budget.pivots s p) (within : s.solved ≤ budget.nodes) where
   abbrev ray : List ℤ
   ray = is.found.ray.items
 
   its_ray : Ray d ray
-  its_ray = shown-ray-law d is.start is.found.shown.pivots ray formed no_arcs is.found.starts is.found.board is.found.shown.shows
+  its_ray = shown-ray-law d is.start is.found.shown.pivots ray formed no_arcs is.found.told.starts is.found.told.board is.found.shown.shows
 
   found_accepts : IsAccepted d (found_answer p ray)
   found_accepts =
@@ -248,7 +280,33 @@ module _ (d : DeckValue) (formed : IsDeck d) (no_arcs : d.arcs ≡ []) (budget :
     accepted = found_accepts;
     right = accepted-is-right-law d (found_answer p ray) formed found_accepts;
     checkable = record { point = record { den = is.found.feasible.den; parts = is.found.feasible.parts }; ray = its_ray.parts; nodes = λ k default h. absurd (omega arith) };
-    tells = record { tolerance = refl; start = is.start; starts = is.found.starts; board = is.found.board; ray = ray; ray_is = refl; shown = is.found.shown };
+    tells = record {
+      tolerance = refl;
+      growth = s.growth;
+      is = is.found.search.growth;
+      start = is.start;
+      history = is.found.history;
+      told = is.found.told;
+      numbered = is.found.search.numbered;
+      unnumbered = is.found.unnumbered;
+      lineage = is.found.lineage;
+      finished = is.found.finished;
+      none_before = is.found.none_before;
+      last = is.found.last;
+      fresh = is.found.search.in_hand;
+      next = is.found.next;
+      point = p;
+      own = is.found.own;
+      end = is.found.end;
+      feasible = is.found.feasible;
+      point_is = refl;
+      ray = ray;
+      ray_is = refl;
+      first = is.found.first;
+      shown = is.found.shown;
+      nodes = let solved = is.found.solved in omega (arith, solved, within);
+      pivots = let all = pivots_all is.start budget.pivots is.found.history is.found.told.chained in let few = is.found.next.few in omega (arith, all, few);
+    };
   }
 
   -- whatever fields say so

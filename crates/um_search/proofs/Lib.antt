@@ -2,6 +2,8 @@ pub mod SpentPivots
 pub mod SpentNodes
 pub mod HandedLeaves
 pub mod OpenLeaves
+pub mod EndlessLeaves
+pub mod PlainLeaves
 pub mod FinalAnswers
 pub mod Begun
 pub mod RunEnds

@@ -37,7 +37,7 @@ spent_turn d b n number own few (inl r) =
       all = omega (arith, all, adds, few);
       due = inl (record { begun = r.begun; early = r.early; steps = r.steps; begins = r.begins; adds = r.adds; holds = (r.holds.state, r.holds.run, r.holds.due) });
     }
-spent_turn d b n number own few (inr o) = record { all = o.stopped.stopped.all; due = inr (o.stopped.first, o.stopped.stopped.state, o.stopped.stopped.out) }
+spent_turn d b n number own few (inr o) = record { all = o.stopped.stopped.all; due = inr (o.stopped.first, n.told.after, o.stopped.stopped.out) }
 
 -- where the last turn stopped for want of pivots, all are made and a step is due
 pub pivots_spent : (d : DeckValue) (start : State) (budget : Budget) (g : GrowthValue) (before : History) (last : Number Turn) (own : Option MultipliersValue) → IsHistory d start budget.pivots g (before ++ last ∷ []) → last.told.end ≡ Halted why.Pivots own → HasSpentPivots d budget g (before ++ last ∷ [])

@@ -1,9 +1,10 @@
 -- What an answer tells of the search that it came from.
-use Rattle.std.specs.Prelude.{◌≡◌, ℕ, suc, ◌<◌, ◌≤◌, ℤ, pos, ◌⊎◌, List, [], ◌∷◌, ◌++◌, length, Option, Some, None, IfSome, IsSome, IsNone}
+use Rattle.std.specs.Prelude.{◌≡◌, ℕ, suc, ◌+◌, ◌<◌, ◌≤◌, ℤ, pos, ◌⊎◌, List, [], ◌∷◌, ◌++◌, length, Option, Some, None, IfSome, IsSome, IsNone}
 use Rattle.um_laws.specs.Rational.{Rational}
 use Rattle.um_multipliers.specs.PlainMultipliers.{MultipliersValue}
-use Rattle.um_model.specs.Values.{DeckValue}
+use Rattle.um_model.specs.Values.{DeckValue, PointValue}
 use Rattle.um_model.specs.Boxes.{BoxValue}
+use Rattle.um_model.specs.Feasible.{Feasible}
 use Rattle.um_model.specs.LeafValue.{Closes}
 use Rattle.um_model.specs.AnswerValues.{AnswerValue, OpenLeaf}
 use Rattle.um_model.specs.declared.answer.Why.{Why}
@@ -11,8 +12,6 @@ use Rattle.um_model.specs.declared.answer.Why.TheVariants as why
 use Rattle.um_model.specs.declared.answer.AnswerKind.{AnswerKind}
 use Rattle.um_model.specs.declared.answer.AnswerKind.TheVariants.{Unbounded}
 use Rattle.um_lp.specs.States.{State}
-use Rattle.um_lp.specs.Boards.{IsBoard, IsStart}
-use Rattle.um_duality.specs.Relaxed.{deck_frame}
 use Rattle.um_dual.specs.Methods.{IsDue}
 use Rattle.um_relax.specs.Runs.{IsRun}
 use Rattle.um_ray.specs.Starts.{IsOutOfPivots}
@@ -25,8 +24,9 @@ use Rattle.um_progress.specs.Numbers.{Number, IsNumbered}
 use Rattle.um_progress.specs.Searches.{objective_of}
 use Rattle.um_progress.specs.Lineage.{IsLineage}
 use Rattle.um_progress.specs.Ends.{point_of}
-use Rattle.um_turns.specs.Turns.{Turn, Halted}
+use Rattle.um_turns.specs.Turns.{Turn, Reached, Halted}
 use Rattle.um_turns.specs.Histories.{History, IsHanded, IsHistory, AreFinished, IsBest, pivots_of, ray_of}
+use Rattle.um_turns.specs.NextTurns.{IsNextTurn}
 use Rattle.um_turns.specs.Laws.{HasShown}
 use Rattle.um_loop.specs.Goings.{IsNoGrid}
 use Rattle.um_loop.specs.UnnumberedNodes.{AreUnnumbered}
@@ -88,6 +88,16 @@ IsHandedLeaf g history id = (y : MultipliersValue) → node_at g id ≡ record {
 abbrev pub OpenLeavesAreHanded : GrowthValue → History → Type 0
 OpenLeavesAreHanded g history = (id : ℕ) → id < length g.nodes → IsHandedLeaf g history id
 
+-- ---- the open leaves of a deck with a ray
+
+-- the multipliers are 1 and none
+abbrev pub IsOneAndNone : MultipliersValue → Type 0
+IsOneAndNone y = y ≡ record { y0 = pos 1; rows = [] }
+
+-- and so are those of each open leaf, with a number or without one
+abbrev pub HaveOneAndNone : GrowthValue → Type 0
+HaveOneAndNone g = (id : ℕ) (y : MultipliersValue) → id < length g.nodes → what_at g id ≡ OpenLeaf y → IsOneAndNone y
+
 -- ---- the best point
 
 -- the point and the objective are those of the first of least objective among the feasible vertices of the turns
@@ -114,6 +124,8 @@ pub record TellsBest (d : DeckValue) (history : History) (a : AnswerValue) : Typ
 --   spent_nodes: where nodes were wanting, all are solved and one more is in hand, which the best point does not close
 --   spent_pivots: where pivots were wanting, all were made and one more step is due
 --   no_point: where the first turn has shown a ray there is no point, as a feasible one makes the answer Unbounded
+--   no_costs: there each open leaf has the multipliers 1 and none, as the board takes no costs
+--   no_bound: and there is no bound, as no end of a box stops the ray, along which the costs fall
 pub record TellsSearch (d : DeckValue) (budget : Budget) (a : AnswerValue) : Type 0 where
   pub tolerance : a.tolerance ≡ pos 0
   pub ray : a.ray ≡ None
@@ -136,22 +148,54 @@ pub record TellsSearch (d : DeckValue) (budget : Budget) (a : AnswerValue) : Typ
   pub spent_nodes : a.why ≡ Some why.Nodes → HasSpentNodes d budget a.objective growth history
   pub spent_pivots : a.why ≡ Some why.Pivots → HasSpentPivots d budget growth history
   pub no_point : IsSome (ray_of history) → IsNone a.point
+  pub no_costs : IsSome (ray_of history) → HaveOneAndNone growth
+  pub no_bound : IsSome (ray_of history) → IsNone a.bound
 
--- An unbounded answer tells of its search that the start problem, on a board that starts, has shown its ray within the budget.
-pub record TellsRay (d : DeckValue) (budget : Budget) (a : AnswerValue) : Type 0 where
+-- An unbounded answer tells the search that it came from, within this budget, too, but for the tree, which it has not:
+-- the turns of its nodes on one board, of which the first has shown the ray, up to the first that ended at a feasible vertex.
+--   growth, is: the tree that grew up to the last turn
+--   told, numbered, unnumbered, lineage: of the turns before the last one and of the tree, as of another answer
+--   finished: none of them stopped the search
+--   none_before: none of them ended at a feasible vertex
+--   fresh: the node of the last turn is an open leaf of the tree, without a number there
+--   next: the last turn is the next one: it began where the turn before ended, with the pivots that were left, and its run is on the box of its node
+--   end: it ended at this point, with these multipliers
+--   feasible, point_is: the point is feasible, and is that of the answer
+--   first: the ray is the one that the first turn has shown
+--   shown: the start problem has shown it on the board with which the search began
+--   nodes, pivots: with the last turn, too, within the budget
+pub record TellsUnbounded (d : DeckValue) (budget : Budget) (a : AnswerValue) : Type 0 where
   pub tolerance : a.tolerance ≡ pos 0
+  pub growth : GrowthValue
+  pub is : IsGrowth growth
   pub start : State
-  pub starts : IsStart (deck_frame d) start
-  pub board : IsBoard start
+  pub history : History
+  pub told : IsHistory d start budget.pivots growth history
+  pub numbered : IsNumbered Turn growth history
+  pub unnumbered : AreUnnumbered growth history
+  pub lineage : IsLineage growth
+  pub finished : AreFinished history
+  pub none_before : IsBest d history None
+  pub last : Number Turn
+  pub fresh : IsFresh growth last.id
+  pub next : IsNextTurn d start budget.pivots growth history last.id last
+  pub point : PointValue
+  pub own : MultipliersValue
+  pub end : last.told.end ≡ Reached point own
+  pub feasible : Feasible d point
+  pub point_is : a.point ≡ Some point
   pub ray : List ℤ
   pub ray_is : a.ray ≡ Some ray
+  pub first : ray_of (history ++ last ∷ []) ≡ Some ray
   pub shown : HasShown d start budget.pivots ray
+  pub nodes : length history < budget.nodes
+  pub pivots : pivots_of history + last.pivots ≤ budget.pivots
 
 -- what an answer of this kind tells
 abbrev pub TellsOf : AnswerKind → DeckValue → Budget → AnswerValue → Type 0
-TellsOf Unbounded d budget a = TellsRay d budget a
+TellsOf Unbounded d budget a = TellsUnbounded d budget a
 TellsOf other d budget a = TellsSearch d budget a
 
--- an answer tells the search that it came from; an unbounded one its ray alone
+-- an answer tells the search that it came from; an unbounded one up to its feasible point
 abbrev pub TellsAnswer : DeckValue → Budget → AnswerValue → Type 0
 TellsAnswer d budget a = TellsOf a.kind d budget a

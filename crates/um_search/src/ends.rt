@@ -169,6 +169,7 @@ pub(crate) fn unbounded(
     requires formed { IsDeck deck.now }
     requires no_arcs { deck.now.arcs ≡ [] }
     requires found { IsFound deck.now budget.pivots search (plain_point point) }
+    requires within { search.solved ≤ budget.nodes }
     ensures accepted { IsAccepted deck.now (plain_answer result) }
     ensures right { IsRight deck.now (plain_answer result) }
     ensures checkable { IsCheckable deck.now (plain_answer result) }

@@ -3,8 +3,8 @@
 //! [`solve`] searches a deck without arcs, infinite ends, ordered sets and integer and semicontinuous columns
 //! included; [`is_searched`] tells such decks. A caller may rest on this: the answer is accepted by every
 //! checker of trees, and so it is right; it tells the search that it came from, with the runs of the dual
-//! simplex method on all of its nodes, or the ray that makes it unbounded; and it stops early only at the
-//! budget of nodes or of pivots, or where a number is too large.
+//! simplex method on all of its nodes, where it is unbounded up to the first feasible vertex; and it stops early
+//! only at the budget of nodes or of pivots, or where a number is too large.
 #![tactic(auto)]
 
 mod budget;
