@@ -1,16 +1,16 @@
 -- What a changed part of a box leaves, and how it is put back.
-use Rattle.std.proofs.Common.{◌≡◌, ◌∙◌, ap, sym, subst, ℕ, ◌+◌, ◌<◌, ◌≤◌, List, length, map, get_or, set, arith, All, Some, option_map, inl, inr}
+use Rattle.std.proofs.Common.{◌≡◌, ◌∙◌, ap, sym, subst, ℕ, ◌+◌, ◌<◌, ◌≤◌, List, length, map, get_or, set, arith, true, All, Some, option_map, inl, inr}
 use Rattle.std.specs.Prelude.{slice_get, ◌^◌}
 use Rattle.std.specs.Option.{ForSome}
 use Rattle.std.proofs.lemmas.Bool.{cases_eq}
 use Rattle.std.proofs.lemmas.List.{set-set, set-get_or, length-set, length-map, get_or-set_same, get_or-set_other, get_or_default}
 use Rattle.std.proofs.lemmas.Option.{slice_get-map, slice_get-get_or, slice_get_within, get_or_from_slice_get, same_Some}
 use Rattle.um_model.specs.Values.{SetValue, plain_set}
-use Rattle.um_model.specs.WellFormed.{AtPlace, IsDeck, IsWithin}
-use Rattle.um_model.specs.Boxes.{Ends, Span, span_at, with_span}
+use Rattle.um_model.specs.WellFormed.{AtPlace, IsDeck, IsWithin, has_arc}
+use Rattle.um_model.specs.Boxes.{Ends, Span, free, span_at, with_span}
 use Rattle.um_model.specs.declared.deck.Member.{Member}
 use Rattle.um_model.specs.declared.deck.OrderedSet.{OrderedSet}
-use Rattle.um_box.specs.NodeBoxes.{NodeBoxValue, IsNodeBox, IsInterval, put_ends, put_first, put_last}
+use Rattle.um_box.specs.NodeBoxes.{NodeBoxValue, IsNodeBox, HasCurveEnds, IsInterval, put_ends, put_first, put_last}
 use Rattle.um_box.specs.ShutOut.{IsCounted, times_outside}
 use Rattle.um_box.specs.Undos.{Undoes, undone}
 use Rattle.um_box.specs.declared.undo.Undo.{Undo}
@@ -137,6 +137,7 @@ module _ (b : NodeBoxValue) (counts : List ℕ) (i : ℕ) (s : SetValue) (member
       spans = length-set b.limits.spans i new ∙ kept.node.spans;
       low = kept.node.low;
       high = kept.node.high;
+      curves = kept.node.curves;
       intervals = other_interval;
     }
 
@@ -194,6 +195,9 @@ module _ (b : NodeBoxValue) (column : ℕ) (e : Ends) (inside : column < length 
 
   pub high_put_back : ForSome e.high (IsWithin (10 ^ 10))
   high_put_back = let each = node.ends in subst (λ (x : Ends). ForSome x.high (IsWithin (10 ^ 10))) put_there (node.high column e (omega arith))
+
+  pub curve_put_back : has_arc b.deck.arcs column ≡ true → HasCurveEnds e
+  curve_put_back h = let each = node.ends in subst HasCurveEnds (get_or-set_same b.limits.ends column e free (omega (arith, length-set b.limits.ends column e))) (node.curves column h)
 
 module _ (b : NodeBoxValue) (i : ℕ) (new : Span) (inside : i < length b.deck.sets) (node : IsNodeBox (with_interval b i new)) where
   span_there_now : span_at (with_span b.limits i new) i ≡ new

@@ -15,7 +15,7 @@ use Rattle.um_box.specs.NodeBoxes.{NodeBoxValue, IsNodeBox}
 
 -- ---- a column that has a kind is in the deck
 
-kind_at : (cs : List ColumnValue) (column : ℕ) (k : Kind) → option_map (λ (c : ColumnValue). c.kind) (slice_get cs column) ≡ Some k → (c : ColumnValue) × (column < length cs) × (get_or cs column c ≡ c) × (c.kind ≡ k)
+pub kind_at : (cs : List ColumnValue) (column : ℕ) (k : Kind) → option_map (λ (c : ColumnValue). c.kind) (slice_get cs column) ≡ Some k → (c : ColumnValue) × (column < length cs) × (get_or cs column c ≡ c) × (c.kind ≡ k)
 kind_at cs column k e = elim (slice_get_cases cs column).1 [
   | inl there ↦ (there.0, there.1, there.3, same_Some there.0.kind k (ap (option_map (λ (c : ColumnValue). c.kind)) (sym there.2) ∙ e))
   | inr past ↦ absurd (none-some k (ap (option_map (λ (c : ColumnValue). c.kind)) (sym past.1) ∙ e))

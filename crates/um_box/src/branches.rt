@@ -166,6 +166,7 @@ impl<'d> NodeBox<'d> {
         ensures child { self.new ≡ entered self.old (Branch.Semi column) side }
         ensures undo { Undoes result self.old self.new }
     {
+        self.deck().known();
         let threshold = self.threshold(column);
         match side {
             Side::Left => self.put_ends(

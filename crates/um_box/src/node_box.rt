@@ -1,12 +1,12 @@
 //! The box of a node of a branch and bound tree.
 
-ghost use Rattle.std.specs.Prelude.{◌≡◌, ◌<◌, ◌≤◌, ◌^◌, ◌-◌, ◌↔◌, nat_lt, map, length, slice_index, Some, IfOk, IsTrue, replicate};
+ghost use Rattle.std.specs.Prelude.{◌≡◌, ◌<◌, ◌≤◌, ◌^◌, ◌-◌, ◌↔◌, nat_lt, true, map, length, slice_index, Some, IfOk, IsTrue, replicate};
 ghost use Rattle.std.specs.Option.{MatchOption, ForSome};
 ghost use Rattle.um_model.specs.Values.{plain_column, plain_set, SetValue};
-ghost use Rattle.um_model.specs.WellFormed.{AtPlace, IsWithin};
+ghost use Rattle.um_model.specs.WellFormed.{AtPlace, IsWithin, has_arc};
 ghost use Rattle.um_model.specs.Boxes.{root, ends_at, ends_of, span_at, is_shut_out, IsVoid, IsFirstCrossed};
 ghost use Rattle.um_model.specs.Branches.{kind_of, set_kind_of};
-ghost use Rattle.um_box.specs.NodeBoxes.{put_ends, put_first, put_last};
+ghost use Rattle.um_box.specs.NodeBoxes.{HasCurveEnds, put_ends, put_first, put_last};
 ghost use Rattle.um_box.specs.Undos.{undone, Belongs, Undoes};
 ghost use Rattle.um_model.specs.declared.deck.Column.{Column};
 ghost use Rattle.um_model.specs.declared.deck.OrderedSet.{OrderedSet};
@@ -167,6 +167,7 @@ impl<'d> NodeBox<'d> {
         requires inside { column < length self.old.deck.columns }
         requires low { ForSome ends.low (IsWithin (10 ^ 10)) }
         requires high { ForSome ends.high (IsWithin (10 ^ 10)) }
+        requires curve { has_arc self.old.deck.arcs column ≡ true → HasCurveEnds ends }
         ensures node { self.new ≡ put_ends self.old column ends }
         ensures undo { Undoes result self.old self.new }
     {
@@ -182,6 +183,7 @@ impl<'d> NodeBox<'d> {
     pub(crate) fn put_low(&mut self, column: u32, low: i64) -> Undo
         requires inside { column < length self.old.deck.columns }
         requires size { IsWithin (10 ^ 10) low }
+        requires curve { has_arc self.old.deck.arcs column ≡ true → IsWithin 8000000 low }
         ensures node { self.new ≡ put_ends self.old column (record { low = Some low; high = (ends_at self.old.limits column).high }) }
         ensures undo { Undoes result self.old self.new }
     {
@@ -198,6 +200,7 @@ impl<'d> NodeBox<'d> {
     pub(crate) fn put_high(&mut self, column: u32, high: i64) -> Undo
         requires inside { column < length self.old.deck.columns }
         requires size { IsWithin (10 ^ 10) high }
+        requires curve { has_arc self.old.deck.arcs column ≡ true → IsWithin 8000000 high }
         ensures node { self.new ≡ put_ends self.old column (record { low = (ends_at self.old.limits column).low; high = Some high }) }
         ensures undo { Undoes result self.old self.new }
     {

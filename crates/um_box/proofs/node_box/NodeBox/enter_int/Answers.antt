@@ -4,6 +4,7 @@ use Rattle.um_model.specs.Boxes.{ends_at}
 use Rattle.um_model.specs.declared.branch.Branch.TheVariants.{Int}
 use Rattle.um_model.specs.declared.branch.Side.{Side}
 use Rattle.um_box.specs.NodeBoxes.{entered, put_ends}
+use Rattle.um_box.proofs.CurveEnds.{int_curve}
 use Rattle.um_box.proofs.EndSizes.{int_sizes, held, held_is, thousand_fits, thousand_is, thousand_within}
 use Rattle.um_box.proofs.node_box.NodeBox.enter_int.Goals as goal
 
@@ -47,3 +48,16 @@ returns-in-Right-clause-child c =
     ap (λ (z : ℤ). held (pos 1000 *ℤ held (z +ℤ pos 1))) kept ∙ thousand_is (c.args.below +ℤ pos 1) sizes.next in
     c.put_low.ensures.node ∙ ap (λ (z : ℤ). put_ends c.args.self.now c.args.column (record { low = Some z; high = (ends_at c.args.self.now.limits c.args.column).high })) is
     ∙ ap (λ (s : Side). entered c.args.self.now (Int c.args.column c.args.below) s) (sym c.in-Right.is)
+
+pub put_high-requires-clause-curve : goal.put_high-requires-clause-curve
+put_high-requires-clause-curve c h =
+    let is = thousand_is c.args.below (int_sizes c.args.self.now c.args.column c.args.below c.known.ensures c.requires).here in
+    subst (λ (z : ℤ). unsigned_abs z ≤ 8000000) (sym is) (int_curve c.args.self.now c.args.column c.args.below c.known.ensures c.requires h).here
+
+pub put_low-requires-clause-curve : goal.put_low-requires-clause-curve
+put_low-requires-clause-curve c h =
+    let sizes = int_sizes c.args.self.now c.args.column c.args.below c.known.ensures c.requires in
+    let here = sizes.here in
+    let is : held (pos 1000 *ℤ held (held c.args.below +ℤ pos 1)) ≡ pos 1000 *ℤ (c.args.below +ℤ pos 1) =
+    ap (λ (z : ℤ). held (pos 1000 *ℤ held (z +ℤ pos 1))) (held_is c.args.below (omega (arith, here))) ∙ thousand_is (c.args.below +ℤ pos 1) sizes.next in
+    subst (λ (z : ℤ). unsigned_abs z ≤ 8000000) (sym is) (int_curve c.args.self.now c.args.column c.args.below c.known.ensures c.requires h).next
