@@ -1,6 +1,6 @@
 //! Leaf values that were worked out by hand.
 
-ghost use Rattle.std.specs.Prelude.{◌≡◌, []};
+ghost use Rattle.std.specs.Prelude.{◌≡◌};
 ghost use Rattle.um_model.specs.Boxes.{IsVoid};
 
 use std::alloc::{AllocError, Global};
@@ -24,7 +24,6 @@ fn value_under(
 ) -> Result<Option<Leaf>, Memory>
     requires same_deck { node.now.deck ≡ deck.now }
     requires not_void { ¬ IsVoid deck.now node.now.limits }
-    requires no_arcs { deck.now.arcs ≡ [] }
 {
     let rows = List::from_slice(alloc, prices)?;
     let y = Multipliers { y0, rows };
