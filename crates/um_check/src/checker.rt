@@ -1,6 +1,6 @@
 //! The verdict on an answer.
 
-ghost use Rattle.std.specs.Prelude.{◌≡◌, [], IfOk};
+ghost use Rattle.std.specs.Prelude.{◌≡◌, IfOk};
 ghost use Rattle.um_model.specs.Accepted.{IsVerdict};
 ghost use Rattle.um_model.specs.AnswerValues.{plain_answer};
 ghost use Rattle.um_model.specs.Checkable.{IsCheckable};
@@ -46,10 +46,9 @@ impl<'d> Checker<'d> {
     }
 
     /// Yes exactly where the answer is accepted, and else the first reason against it, with the place of
-    /// its node. Takes no memory. For now of decks without arcs.
+    /// its node. Takes no memory.
     pub fn verdict(&mut self, answer: &Answer) -> Verdict
         requires checkable { IsCheckable self.old (plain_answer answer.now) }
-        requires no_arcs { self.old.arcs ≡ [] }
         ensures verdict { IsVerdict self.old (plain_answer answer.now) result }
         ensures deck { self.new ≡ self.old }
     {

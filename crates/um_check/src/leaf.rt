@@ -1,6 +1,6 @@
 //! The leaves of a tree.
 
-ghost use Rattle.std.specs.Prelude.{◌≡◌, ◌^◌, ◌<◌, pos, ◌<ℤ◌, [], length, IsTrue, ◌↔◌, IfOk, IfErr};
+ghost use Rattle.std.specs.Prelude.{◌≡◌, ◌^◌, ◌<◌, pos, ◌<ℤ◌, length, IsTrue, ◌↔◌, IfOk, IfErr};
 ghost use Rattle.um_multipliers.specs.NormalForm.{HasRisingRows};
 ghost use Rattle.um_multipliers.specs.PlainMultipliers.{plain_multipliers};
 ghost use Rattle.um_multipliers.specs.Sizes.{AreBelow};
@@ -19,7 +19,6 @@ use um_model::{Answer, AnswerKind, Leaf, Multipliers, Reason, What};
 
 /// What a leaf says of the bound, or the first reason against it. A split is passed over.
 pub fn on_leaf(node: &NodeBox<'_>, answer: &Answer, leaf: &What) -> Result<LeastBound, Reason>
-    requires no_arcs { node.now.deck.arcs ≡ [] }
     requires tolerance { IsTolerance answer.now.tolerance }
     requires checkable { IsCheckableWhat node.now.deck (plain_what leaf.now) }
     ensures leaf { OnLeaf node.now.deck (plain_answer answer.now) node.now.limits (plain_what leaf.now) result }
@@ -59,7 +58,6 @@ fn is_crossed(node: &NodeBox<'_>, column: u32) -> bool
 
 /// A leaf that is to show that nothing in its box beats the answer.
 fn on_bounded(node: &NodeBox<'_>, answer: &Answer, y: &Multipliers) -> Result<LeastBound, Reason>
-    requires no_arcs { node.now.deck.arcs ≡ [] }
     requires tolerance { IsTolerance answer.now.tolerance }
     requires rows { HasRisingRows (length node.now.deck.rows) y.now.rows.items }
     ensures leaf { OnLeaf node.now.deck (plain_answer answer.now) node.now.limits (Bounded (plain_multipliers y.now)) result }
@@ -105,7 +103,6 @@ fn is_closed(node: &NodeBox<'_>, answer: &Answer, y: &Multipliers, value: i128) 
 
 /// A leaf that is to show that its box has no feasible point. It says nothing of the bound.
 fn on_empty(node: &NodeBox<'_>, y: &Multipliers) -> Result<LeastBound, Reason>
-    requires no_arcs { node.now.deck.arcs ≡ [] }
     requires rows { HasRisingRows (length node.now.deck.rows) y.now.rows.items }
     ensures leaf { (a : AnswerValue) → OnLeaf node.now.deck a node.now.limits (Empty (plain_multipliers y.now)) result }
     ensures bound { GivesBound node.now.deck node.now.limits (Empty (plain_multipliers y.now)) result }
@@ -127,7 +124,6 @@ fn empties(node: &NodeBox<'_>, y: &Multipliers, value: i128) -> bool
 
 /// A leaf that the search did not come to.
 fn on_open(node: &NodeBox<'_>, answer: &Answer, y: &Multipliers) -> Result<LeastBound, Reason>
-    requires no_arcs { node.now.deck.arcs ≡ [] }
     requires rows { HasRisingRows (length node.now.deck.rows) y.now.rows.items }
     ensures leaf { OnLeaf node.now.deck (plain_answer answer.now) node.now.limits (OpenLeaf (plain_multipliers y.now)) result }
     ensures bound { GivesBound node.now.deck node.now.limits (OpenLeaf (plain_multipliers y.now)) result }
@@ -159,7 +155,6 @@ fn is_stopped(kind: AnswerKind) -> bool
 
 /// What an open leaf says of the bound.
 fn open_bound(node: &NodeBox<'_>, y: &Multipliers) -> LeastBound
-    requires no_arcs { node.now.deck.arcs ≡ [] }
     requires rows { HasRisingRows (length node.now.deck.rows) y.now.rows.items }
     requires full { ¬ IsVoid node.now.deck node.now.limits }
     requires small { AreBelow (2 ^ 40) (plain_multipliers y.now) }
@@ -175,7 +170,6 @@ fn open_bound(node: &NodeBox<'_>, y: &Multipliers) -> LeastBound
 
 /// The value of the leaf, where its multipliers may be used, and else the first reason against them.
 fn usable_value(node: &NodeBox<'_>, y: &Multipliers) -> Result<i128, Reason>
-    requires no_arcs { node.now.deck.arcs ≡ [] }
     requires rows { HasRisingRows (length node.now.deck.rows) y.now.rows.items }
     ensures ok { IfOk result (LeafValueIs node.now.deck node.now.limits (plain_multipliers y.now)) }
     ensures err { IfErr result (IsUnusable node.now.deck node.now.limits (plain_multipliers y.now)) }

@@ -7,8 +7,6 @@
 //!
 //! An unbounded answer has no tree; its ray is tested in one walk over the entries, with the sums of
 //! all rows together in an array of 8 KiB on the stack.
-//!
-//! For now of decks without arcs.
 #![tactic(auto)]
 
 mod bound;

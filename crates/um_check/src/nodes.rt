@@ -18,7 +18,6 @@ use um_num::Frac;
 /// The verdict on the nodes of a tree, and on the bound that their leaves give.
 pub fn on_nodes(walk: &mut Walk<'_>, answer: &Answer, nodes: &[Node]) -> Verdict
     requires start { walk.old ≡ start_of walk.old.deck }
-    requires no_arcs { walk.old.deck.arcs ≡ [] }
     requires tolerance { IsTolerance answer.now.tolerance }
     requires nodes { map plain_node nodes.now ≡ (plain_answer answer.now).tree }
     requires most { length nodes.now ≤ 200001 }
@@ -82,7 +81,6 @@ fn is_stated(answer: &Answer, bound: Option<Frac>) -> bool
 fn visit(walk: &mut Walk<'_>, answer: &Answer, what: &What) -> Result<LeastBound, Reason>
     requires waits { walk.old.boxes ≢ [] }
     requires room { walk.old.depth < 200001 }
-    requires no_arcs { walk.old.deck.arcs ≡ [] }
     requires tolerance { IsTolerance answer.now.tolerance }
     requires checkable { IsCheckableWhat walk.old.deck (plain_what what.now) }
     ensures visited { IsVisited walk.old.deck (plain_answer answer.now) (plain_what what.now) walk.old.boxes walk.new.boxes result }

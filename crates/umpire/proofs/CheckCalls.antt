@@ -7,18 +7,17 @@ use Rattle.um_model.specs.Values.{DeckValue}
 use Rattle.um_model.specs.AnswerValues.{AnswerValue}
 use Rattle.um_model.specs.declared.verdict.Verdict.{Verdict}
 use Rattle.umpire.specs.CheckRuns.{CheckNames, CheckRan, CheckDue, CheckFails, check_files, CheckKeeps, HasJudged, CheckStopped}
-use Rattle.um_search.specs.Conditions.{IsSearched}
-use Rattle.umpire.specs.Findings.{HasSearchedDeck, HasTree, IsFinding}
+use Rattle.umpire.specs.Findings.{HasDeck, HasTree, IsFinding}
 use Rattle.umpire.specs.Refusals.{refusal_text}
 use Rattle.um_report.specs.Verdicts.{verdict_text}
-use Rattle.umpire.specs.Stops.{FileStopped, RefusesDeckOf, RefusesTree, SaidOrNot, GaveUp}
+use Rattle.umpire.specs.Stops.{FileStopped, RefusesDeck, RefusesTree, SaidOrNot, GaveUp}
 use Rattle.umpire.specs.declared.ending.Ending.{Ending}
 use Rattle.umpire.specs.declared.ending.Ending.TheVariants.{Judged, Refused}
 use Rattle.umpire.specs.declared.outcome.Refusal.TheVariants.{Words, LowTolerance, Deck, Tree}
 use Rattle.umpire.specs.declared.reading.Stop.{Stop}
 use Rattle.umpire.specs.declared.reading.Stop.TheVariants as stop
 use Rattle.um_outside.proofs.AskedInOrder.{asked_then}
-use Rattle.umpire.proofs.FileReads.{deck_left, no_deck_left, tree_left, no_tree_left}
+use Rattle.umpire.proofs.FileReads.{any_deck_left, no_text_left, tree_left, no_tree_left}
 use Rattle.umpire.proofs.Sayings.{said_comes}
 
 -- ---- the files
@@ -40,8 +39,8 @@ both_keep names s m t a b = record {
 }
 
 -- the deck was not taken
-pub deck_stopped : (names : CheckNames) (why : Stop) (s t : Scene) → FileStopped names.deck (RefusesDeckOf IsSearched names.deck) why s t → CheckStopped names why s t
-deck_stopped names (stop.Refused (Deck f)) s t h = (h, deck_keeps names s t (no_deck_left IsSearched names.deck f s t h))
+pub deck_stopped : (names : CheckNames) (why : Stop) (s t : Scene) → FileStopped names.deck (RefusesDeck names.deck) why s t → CheckStopped names why s t
+deck_stopped names (stop.Refused (Deck f)) s t h = (h, deck_keeps names s t (no_text_left names.deck f s t h))
 deck_stopped names (stop.Refused (Tree f)) s t h = absurd h
 deck_stopped names (stop.Refused (Words w)) s t h = absurd h
 deck_stopped names (stop.Refused (LowTolerance least)) s t h = absurd h
@@ -53,40 +52,40 @@ deck_stopped names stop.Fault s t h = record {
 deck_stopped names stop.Memory s t h = deck_keeps names s t h
 
 -- the deck was read, and the tree was not taken
-pub tree_stopped : (names : CheckNames) (d : DeckValue) (why : Stop) (s m t : Scene) → HasSearchedDeck names.deck d s m → FileStopped names.tree (RefusesTree d names.tree) why m t → CheckStopped names why s t
+pub tree_stopped : (names : CheckNames) (d : DeckValue) (why : Stop) (s m t : Scene) → HasDeck names.deck d s m → FileStopped names.tree (RefusesTree d names.tree) why m t → CheckStopped names why s t
 tree_stopped names d (stop.Refused (Tree f)) s m t a h = (
   record { between = m; deck = d; deck_read = a; refused = h },
-  both_keep names s m t (deck_left IsSearched names.deck d s m a) (no_tree_left d names.tree f m t h),
+  both_keep names s m t (any_deck_left names.deck d s m a) (no_tree_left d names.tree f m t h),
 )
 tree_stopped names d (stop.Refused (Deck f)) s m t a h = absurd h
 tree_stopped names d (stop.Refused (Words w)) s m t a h = absurd h
 tree_stopped names d (stop.Refused (LowTolerance least)) s m t a h = absurd h
 tree_stopped names d stop.Fault s m t a h =
-    let k = deck_left IsSearched names.deck d s m a in
+    let k = any_deck_left names.deck d s m a in
     record {
       fails = inr (record { between = m; deck = d; deck_read = a; fault = h });
       files = record { put = h.put ∙ k.put; holds = h.holds ∙ k.holds };
       asked = record { front = check_files names; behind = []; all = refl; asked = asked_then (to_open names.deck ∷ []) (to_open names.tree ∷ []) s.asked m.asked t.asked k.asked h.asked };
     }
-tree_stopped names d stop.Memory s m t a h = both_keep names s m t (deck_left IsSearched names.deck d s m a) h
+tree_stopped names d stop.Memory s m t a h = both_keep names s m t (any_deck_left names.deck d s m a) h
 
 -- both were read, and no memory was found for the verdict
-pub both_kept : (names : CheckNames) (d : DeckValue) (a : AnswerValue) (s m t : Scene) → HasSearchedDeck names.deck d s m → HasTree d names.tree a m t → CheckKeeps names s t
-both_kept names d a s m t deck tree = both_keep names s m t (deck_left IsSearched names.deck d s m deck) (tree_left d names.tree a m t tree)
+pub both_kept : (names : CheckNames) (d : DeckValue) (a : AnswerValue) (s m t : Scene) → HasDeck names.deck d s m → HasTree d names.tree a m t → CheckKeeps names s t
+both_kept names d a s m t deck tree = both_keep names s m t (any_deck_left names.deck d s m deck) (tree_left d names.tree a m t tree)
 
 -- both were read and judged
-pub both_judged : (names : CheckNames) (d : DeckValue) (a : AnswerValue) (v : Verdict) (s m t : Scene) → HasSearchedDeck names.deck d s m → HasTree d names.tree a m t → IsFinding d a v → HasJudged names v s t
+pub both_judged : (names : CheckNames) (d : DeckValue) (a : AnswerValue) (v : Verdict) (s m t : Scene) → HasDeck names.deck d s m → HasTree d names.tree a m t → IsFinding d a v → HasJudged names v s t
 both_judged names d a v s m t deck tree finding = record {
   judges = record { between = m; deck = d; answer = a; deck_read = deck; tree_read = tree; finding = finding };
   keeps = both_kept names d a s m t deck tree;
 }
 
 -- what the checker found of both, or no memory was found for it
-pub judged_ok : (names : CheckNames) (d : DeckValue) (a : AnswerValue) (s m t : Scene) (r : Result Verdict Stop) → HasSearchedDeck names.deck d s m → HasTree d names.tree a m t → IfOk r (IsFinding d a) → IfOk r (λ (v : Verdict). HasJudged names v s t)
+pub judged_ok : (names : CheckNames) (d : DeckValue) (a : AnswerValue) (s m t : Scene) (r : Result Verdict Stop) → HasDeck names.deck d s m → HasTree d names.tree a m t → IfOk r (IsFinding d a) → IfOk r (λ (v : Verdict). HasJudged names v s t)
 judged_ok names d a s m t (Ok v) deck tree finding = both_judged names d a v s m t deck tree finding
 judged_ok names d a s m t (Err why) deck tree finding = tt
 
-pub judged_err : (names : CheckNames) (d : DeckValue) (a : AnswerValue) (s m t : Scene) (r : Result Verdict Stop) → HasSearchedDeck names.deck d s m → HasTree d names.tree a m t → IfErr r (λ (why : Stop). why ≡ stop.Memory) → IfErr r (λ (why : Stop). CheckStopped names why s t)
+pub judged_err : (names : CheckNames) (d : DeckValue) (a : AnswerValue) (s m t : Scene) (r : Result Verdict Stop) → HasDeck names.deck d s m → HasTree d names.tree a m t → IfErr r (λ (why : Stop). why ≡ stop.Memory) → IfErr r (λ (why : Stop). CheckStopped names why s t)
 judged_err names d a s m t (Ok v) deck tree none = tt
 judged_err names d a s m t (Err why) deck tree none = subst (λ (x : Stop). CheckStopped names x s t) (sym none) (both_kept names d a s m t deck tree)
 

@@ -9,8 +9,7 @@ use Rattle.um_model.specs.AnswerValues.{AnswerValue}
 use Rattle.um_model.specs.declared.verdict.Verdict.{Verdict}
 use Rattle.umpire.specs.Calls.{ComesTo, MakesNoFile, AsksInOrder}
 use Rattle.um_treetext.specs.declared.fault.TreeFault.{TreeFault}
-use Rattle.um_search.specs.Conditions.{IsSearched}
-use Rattle.umpire.specs.Findings.{HasSearchedDeck, HasTree, HasNoDeckOf, HasNoTree, IsFinding}
+use Rattle.umpire.specs.Findings.{HasDeck, HasTree, HasNoDeck, HasNoTree, IsFinding}
 use Rattle.umpire.specs.Refusals.{refusal_text}
 use Rattle.um_report.specs.Verdicts.{verdict_text}
 use Rattle.umpire.specs.Words.{is_plain}
@@ -45,7 +44,7 @@ pub record Judges (names : CheckNames) (v : Verdict) (s t : Scene) : Type 0 wher
   pub between : Scene
   pub deck : DeckValue
   pub answer : AnswerValue
-  pub deck_read : HasSearchedDeck names.deck deck s between
+  pub deck_read : HasDeck names.deck deck s between
   pub tree_read : HasTree deck names.tree answer between t
   pub finding : IsFinding deck answer v
 
@@ -53,12 +52,12 @@ pub record Judges (names : CheckNames) (v : Verdict) (s t : Scene) : Type 0 wher
 pub record RefusesTree (names : CheckNames) (f : TreeFault) (s t : Scene) : Type 0 where
   pub between : Scene
   pub deck : DeckValue
-  pub deck_read : HasSearchedDeck names.deck deck s between
+  pub deck_read : HasDeck names.deck deck s between
   pub refused : HasNoTree deck names.tree f between t
 
 -- what was read before this refusal
 abbrev pub CheckRefuses : CheckNames → Refusal → Scene → Scene → Type 0
-CheckRefuses names (Deck fault) s t = HasNoDeckOf IsSearched names.deck fault s t
+CheckRefuses names (Deck fault) s t = HasNoDeck names.deck fault s t
 CheckRefuses names (Tree fault) s t = RefusesTree names fault s t
 CheckRefuses names other s t = ⊥
 
@@ -74,7 +73,7 @@ CheckDue names s t other text = ⊥
 pub record FailsAtTree (names : CheckNames) (s t : Scene) : Type 0 where
   pub between : Scene
   pub deck : DeckValue
-  pub deck_read : HasSearchedDeck names.deck deck s between
+  pub deck_read : HasDeck names.deck deck s between
   pub fault : ReadFaulted names.tree between t
 
 -- at the deck, and then the tree is not asked for, or at the tree

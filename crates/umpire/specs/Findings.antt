@@ -58,7 +58,7 @@ pub record HasDeckOf (IsTaken : DeckValue → Type 0) (name : List ℕ) (d : Dec
   pub text : DeckText bytes d
   pub taken : IsTaken d
 
--- the decks that are searched are those whose trees are checked, too
+-- the same of a deck that is searched
 abbrev pub HasSearchedDeck : List ℕ → DeckValue → Scene → Scene → Type 0
 HasSearchedDeck name d s t = HasDeckOf IsSearched name d s t
 
@@ -98,7 +98,7 @@ pub record IsFinding (d : DeckValue) (a : AnswerValue) (v : Verdict) : Type 0 wh
 
 -- ---- the answer
 
--- the answer is accepted by the checker, and right, and tells the search that it comes from, or its ray, within the budget
+-- the answer is accepted by the checker, and right, and tells the search that it comes from, within the budget
 pub record Answers (d : DeckValue) (budget : Budget) (a : AnswerValue) : Type 0 where
   pub accepted : IsAccepted d a
   pub right : IsRight d a

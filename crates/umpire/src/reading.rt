@@ -28,7 +28,7 @@ const MOST_DECK_BYTES: usize = 16_777_216;
 /// The most bytes of a tree.
 const MOST_TREE_BYTES: usize = 2_147_483_648;
 
-/// The refusal of a deck that is not solved or checked yet.
+/// The refusal of a deck that is not solved yet.
 const UNTAKEN: ReadFault = ReadFault {
     line: 0,
     fault: Fault::NotYet,
@@ -94,8 +94,8 @@ fn deck_of(alloc: Global, bytes: &[u8]) -> Result<Deck, Stop>
     }
 }
 
-/// The deck that a file is the text of, where it is searched, and so its trees are checked. Another deck, which has an
-/// arc, is refused as `NotYet` at line 0.
+/// The deck that a file is the text of, where it is searched. Another deck, which has an arc, is refused as `NotYet` at
+/// line 0.
 pub(crate) fn read_searched<D: Desk>(alloc: Global, desk: &mut D, name: &str) -> Result<Deck, Stop>
     requires idle { (D.scene desk.old).mode ≡ Idle }
     requires going { (D.scene desk.old).stopped ≡ false }

@@ -5,6 +5,7 @@ ghost use Rattle.um_outside.specs.Scenes.{Idle};
 ghost use Rattle.um_outside.specs.MemoryDesks.{scene_of};
 ghost use Rattle.um_outside.specs.MemorySinks.{told_of};
 
+mod arcs;
 mod checking;
 mod infinite_ends;
 mod options;

@@ -1,6 +1,6 @@
 //! `check DECK TREE`: whether a tree proves its answer to a deck.
 
-ghost use Rattle.std.specs.Prelude.{◌≡◌, [], false, map, option_map, string_bytes, IfOk, IfErr};
+ghost use Rattle.std.specs.Prelude.{◌≡◌, false, map, option_map, string_bytes, IfOk, IfErr};
 ghost use Rattle.um_model.specs.AnswerValues.{plain_answer};
 ghost use Rattle.um_model.specs.Checkable.{IsCheckable};
 ghost use Rattle.um_outside.specs.Scenes.{Idle};
@@ -8,7 +8,7 @@ ghost use Rattle.umpire.specs.CheckRuns.{check_of, names_of, CheckRan, CheckStop
 ghost use Rattle.umpire.specs.Findings.{IsFinding};
 
 use crate::ending::Ending;
-use crate::reading::{Stop, read_searched, read_tree};
+use crate::reading::{Stop, read_deck, read_tree};
 use crate::saying::{give_up, tell};
 use crate::words::is_plain;
 use std::alloc::Global;
@@ -64,7 +64,7 @@ fn judge<D: Desk>(alloc: Global, desk: &mut D, files: &CheckFiles<'_>) -> Result
     ensures ok { IfOk result (λ verdict. HasJudged (names_of files.now) verdict (D.scene desk.old) (D.scene desk.new)) }
     ensures err { IfErr result (λ stop. CheckStopped (names_of files.now) stop (D.scene desk.old) (D.scene desk.new)) }
 {
-    let deck = read_searched(alloc, desk, files.deck)?;
+    let deck = read_deck(alloc, desk, files.deck)?;
     match read_tree(alloc, desk, &deck, files.tree) {
         Ok(answer) => verdict_on(alloc, &deck, &answer),
         Err(stop) => Err(stop),
@@ -73,7 +73,6 @@ fn judge<D: Desk>(alloc: Global, desk: &mut D, files: &CheckFiles<'_>) -> Result
 
 /// The verdict on an answer to a deck. The error is want of memory.
 fn verdict_on(alloc: Global, deck: &Deck, answer: &Answer) -> Result<Verdict, Stop>
-    requires no_arcs { deck.now.arcs ≡ [] }
     requires checkable { IsCheckable deck.now (plain_answer answer.now) }
     ensures ok { IfOk result (IsFinding deck.now (plain_answer answer.now)) }
     ensures err { IfErr result (λ stop. stop ≡ Stop.Memory) }

@@ -7,8 +7,9 @@ use super::{YES, call, says, status_of};
 use crate::Status;
 use std::test::Fail;
 
-/// Decks with the statuses, reports and trees of their answers, worked out beforehand by the same rules.
-const ENDS: [(&[u8], Status, &[u8], &[u8]); 7] = [
+/// Decks with the statuses, reports and trees of their answers, worked out beforehand by the same rules. The
+/// last four have a part of a ray, or multipliers of a row, at their limit of size and just below it.
+const ENDS: [(&[u8], Status, &[u8], &[u8]); 11] = [
     (
         b"NAME RAY\nROWS\n N COST\n L LIM1\nCOLUMNS\n x COST -1\n x LIM1 1\n y LIM1 -1\nRHS\n RHS LIM1 1\nENDATA\n",
         Status::Unbounded,
@@ -50,6 +51,30 @@ const ENDS: [(&[u8], Status, &[u8], &[u8]); 7] = [
         Status::Unbounded,
         b"Unbounded\nobjective none\nbound none\ntolerance 0.000\nnodes 0\npivots 0\ncolumn x 0\nray x -1\n",
         b"UMPIRE TREE 1\nDECK SIDE 0 1 0 0\nTOLERANCE 0\nANSWER unbounded\nWHY none\nOBJECTIVE none\nBOUND none\nPOINT 1 0\nRAY -1\nNODES 0\nEND\n",
+    ),
+    (
+        b"NAME LARGE\nROWS\n N COST\n L R0\n L R1\nCOLUMNS\n x COST -1 R0 1\n y R0 -2147483648\n y R1 1\n z R1 -2147483648\nRHS\n RHS R0 1 R1 1\nENDATA\n",
+        Status::Overflow,
+        b"Overflow ray\nobjective none\nbound none\ntolerance 0.000\nnodes 1\npivots 2\n",
+        b"UMPIRE TREE 1\nDECK LARGE 2 3 0 0\nTOLERANCE 0\nANSWER overflow\nWHY ray\nOBJECTIVE none\nBOUND none\nPOINT none\nRAY none\nNODES 1\n1 2 open 1\nEND\n",
+    ),
+    (
+        b"NAME LARGE\nROWS\n N COST\n L R0\n L R1\nCOLUMNS\n x COST -1 R0 1\n y R0 -2147483647\n y R1 1\n z R1 -2147483647\nRHS\n RHS R0 1 R1 1\nENDATA\n",
+        Status::Unbounded,
+        b"Unbounded\nobjective none\nbound none\ntolerance 0.000\nnodes 0\npivots 0\ncolumn x 0\ncolumn y 0\ncolumn z 0\nray x 4611686014132420609\nray y 2147483647\nray z 1\n",
+        b"UMPIRE TREE 1\nDECK LARGE 2 3 0 0\nTOLERANCE 0\nANSWER unbounded\nWHY none\nOBJECTIVE none\nBOUND none\nPOINT 1 0 0 0\nRAY 4611686014132420609 2147483647 1\nNODES 0\nEND\n",
+    ),
+    (
+        b"NAME FARKAS\nROWS\n N COST\n E R0\n E R1\n E R2\nCOLUMNS\n x R0 1048576\n y R0 -1 R1 1048576\n z R1 -1 R2 1048576\n w R2 -1\nBOUNDS\n FX BND x 1\n UP BND w 1\nENDATA\n",
+        Status::Overflow,
+        b"Overflow leaf\nobjective none\nbound 0\ntolerance 0.000\nnodes 1\npivots 3\n",
+        b"UMPIRE TREE 1\nDECK FARKAS 3 4 0 0\nTOLERANCE 0\nANSWER overflow\nWHY leaf 1\nOBJECTIVE none\nBOUND 0\nPOINT none\nRAY none\nNODES 1\n1 3 open 1\nEND\n",
+    ),
+    (
+        b"NAME FARKAS\nROWS\n N COST\n E R0\n E R1\n E R2\nCOLUMNS\n x R0 1048575\n y R0 -1 R1 1048575\n z R1 -1 R2 1048575\n w R2 -1\nBOUNDS\n FX BND x 1\n UP BND w 1\nENDATA\n",
+        Status::Infeasible,
+        b"Infeasible\nobjective none\nbound none\ntolerance 0.000\nnodes 1\npivots 3\n",
+        b"UMPIRE TREE 1\nDECK FARKAS 3 4 0 0\nTOLERANCE 0\nANSWER infeasible\nWHY none\nOBJECTIVE none\nBOUND none\nPOINT none\nRAY none\nNODES 1\n1 3 empty 0 0:-1099509530625 1:-1048575 2:-1\nEND\n",
     ),
 ];
 

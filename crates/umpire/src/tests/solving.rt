@@ -191,15 +191,13 @@ fn refused(rt: HostRuntime) -> Result<(), Fail> {
 
 #[test]
 fn untaken(rt: HostRuntime) -> Result<(), Fail> {
-    // A deck with an arc breaks no rule and is not solved or checked yet.
+    // A deck with an arc breaks no rule and is not solved yet.
     let arc = "ARCS\n Q COST x 1\nENDATA\n";
     let deck = changed(rt.alloc(), DECK, "ENDATA\n", arc)?;
     let solving = solve(rt.alloc(), deck.as_bytes())?;
     let text = b"deck refused: NotYet at line 0\n";
     says(&rt, &solving.told, Status::Refused, text);
     assert_eq!(rt; solving.tree.as_slice(), b"".as_slice());
-    let checked = call(rt.alloc(), "check deck tree", deck.as_bytes(), TREE)?;
-    says(&rt, &checked, Status::Refused, text);
     Ok(())
 }
 

@@ -139,7 +139,7 @@ const CHANGED_DECKS: [(&[u8], &str, &str, &str); 17] = [
         DECK,
         "ENDATA\n",
         "ARCS\n Q COST x 1\nENDATA\n",
-        "deck refused: NotYet at line 0\n",
+        "tree refused: WrongDeck at line 2\n",
     ),
     (ROW2, "ENDATA\n", "", "deck refused: NoEnd at line 17\n"),
     (

@@ -8,6 +8,8 @@ use Rattle.um_model.specs.AnswerValues.{plain_answer, plain_what}
 use Rattle.um_model.specs.Checkable.{IsCheckableWhat}
 use Rattle.um_model.specs.declared.tree.Node.{Node}
 use Rattle.um_check.specs.Judging.{BeforeTree, FromBound}
+use Rattle.um_check.proofs.NodeSteps.{passes}
+use Rattle.um_check.proofs.Tolerances.{tolerance_is}
 use Rattle.um_check.proofs.Verdicts.{before_stops, ray_decides, tree_decides, nodes_checkable}
 use Rattle.um_check.proofs.checker.Checker.verdict.Goals as goal
 
@@ -36,3 +38,9 @@ returns-clause-verdict c =
     let nodes : NodesVerdict c.args.self.now a (root c.args.self.now ∷ []) 0 a.tree (FromBound c.args.self.now a) c.on_nodes-verdict.result =
     subst (λ (d : DeckValue). NodesVerdict d a (root d ∷ []) 0 a.tree (FromBound d a) c.on_nodes-verdict.result) c.self.view_is c.on_nodes-verdict.ensures.verdict in
     tree_decides c.args.self.now a c.on_nodes-verdict.result before (c.if-not-has_tree.ensures.0 refl) nodes
+
+pub on_nodes-verdict-requires-clause-tolerance : goal.on_nodes-verdict-requires-clause-tolerance
+on_nodes-verdict-requires-clause-tolerance c =
+    let a = plain_answer c.args.answer.now in
+    let before : BeforeTree c.args.self.now a None = subst (λ (d : DeckValue). BeforeTree d a None) (c.deck.ensures ∙ c.self.view_is) c.in_default.ensures in
+    tolerance_is c.args.self.now a.tolerance (passes before).0
