@@ -84,6 +84,7 @@ pub data Next : Type 0 where
   NoPoint : ℕ → Next
   Pivot : ℕ → ℕ → At → Next
 
+-- what comes next in this state
 abbrev pub IsNext : State → Next → Type 0
 IsNext s Ended = (row : ℕ) (side : At) → row < s.frame.rows → ¬ IsOutsideAt s row side
 IsNext s (NoPoint row) = (to : At) × Leaves s row to × ((column : ℕ) → column < width s.frame → ¬ MayEnter s row to column)
@@ -113,5 +114,6 @@ pub record IsDualFeasibleAt (s : State) (column : ℕ) : Type 0 where
   pub upper : at_of s column ≡ Upper → IsSome (ends_of s column).1
   pub free : at_of s column ≡ Zero → ends_of s column ≡ (None, None)
 
+-- the state is dual feasible: each column is
 abbrev pub IsDualFeasible : State → Type 0
 IsDualFeasible s = (column : ℕ) → column < width s.frame → IsDualFeasibleAt s column

@@ -67,6 +67,7 @@ abbrev pub charge : Costs → ℤ → ℤ
 charge Given cost = cost
 charge Nothing cost = pos 0
 
+-- what is charged for a column
 abbrev pub cost_of : State → ℕ → Rational
 cost_of s column = whole (charge s.costs (data_of s column).cost)
 
@@ -76,18 +77,23 @@ cost_of s column = whole (charge s.costs (data_of s column).cost)
 abbrev pub basic_of : State → ℕ → ℕ
 basic_of s row = slice_index s.basic row
 
+-- where a column stands
 abbrev pub at_of : State → ℕ → At
 at_of s column = slice_index_or s.at column Zero
 
+-- the low and the high end of a column
 abbrev pub ends_of : State → ℕ → Option ℤ × Option ℤ
 ends_of s column = slice_index_or s.ends column (None, None)
 
+-- the entry of a row and a column in the tableau
 abbrev pub entry_of : State → ℕ → ℕ → Rational
 entry_of s row column = number_at (slice_index_or s.entries row []) column
 
+-- the reduced cost of a column
 abbrev pub reduced_of : State → ℕ → Rational
 reduced_of s column = number_at s.reduced column
 
+-- the value of a column
 abbrev pub value_of : State → ℕ → Rational
 value_of s column = number_at s.values column
 

@@ -15,6 +15,7 @@ abbrev pub common_denominator : List Rational → ℕ
 common_denominator [] = 1
 common_denominator (x ∷ xs) = common x.den (common_denominator xs)
 
+-- the numbers of all rows in one list
 abbrev pub joined : List (List Rational) → List Rational
 joined [] = []
 joined (row ∷ rows) = row ++ joined rows
@@ -35,5 +36,6 @@ are_wide numbers = nat_le (2 ^ 62) (common_denominator numbers) || list_any (is_
 abbrev pub AreNarrow : List Rational → Type 0
 AreNarrow numbers = are_wide numbers ≡ false
 
+-- the numbers of the state are wide
 unfoldable pub is_wide : State → Bool
 is_wide s = are_wide (numbers_of s)

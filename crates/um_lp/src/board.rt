@@ -59,6 +59,7 @@ pub trait Board {
     fn costs(&self) -> Costs
         ensures { result ≡ (state self.now).costs };
 
+    /// Where a column stands.
     fn at(&self, column: u32) -> At
         requires { column < width (state self.now).frame }
         ensures { result ≡ at_of (state self.now) column };
@@ -129,8 +130,9 @@ pub trait Board {
         ensures wide { IfErr result (IsRefusedAct (state self.old) (IsRebox column (low, high) (state self.old))) }
         ensures keeps { Keeps self.old self.new };
 
-    /// The board is made anew over the rows and costs of its making: every slack is basic, every other
-    /// column at its low end, all ends are 0, and the places for grid points are empty.
+    /// The board is made anew over the rows of its making, with the costs of its making or with none: every
+    /// slack is basic, every other column at its low end, all ends are 0, and the places for grid points are
+    /// empty.
     fn reset(&mut self, costs: Costs) -> Result<(), Wide>
         ensures ok { OnOk result (IsReset costs (state self.old) (state self.new)) }
         ensures err { OnErr result (state self.new ≡ state self.old) }

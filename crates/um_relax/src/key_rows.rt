@@ -13,7 +13,7 @@ use um_deck::{Column, Entry, Row};
 use um_num::{List, Memory};
 
 /// The key rows by rising index: each equation whose coefficients are equal, and none of whose columns
-/// stands in an earlier one.
+/// stands in an earlier key row.
 pub(crate) fn key_rows(alloc: Global, columns: &[Column], rows: &[Row]) -> Result<List<u32>, Memory>
     requires { length rows.now < 2 ^ 32 }
     ensures { IfOk result (λ keys. AreKeyRows (map plain_column columns.now) rows.now (length rows.now) keys.items) }
