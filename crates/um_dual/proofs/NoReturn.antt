@@ -14,7 +14,7 @@ use Rattle.um_lp.specs.declared.board.At.TheVariants.{Lower, Upper, Zero, Basic}
 use Rattle.um_laws.proofs.RationalEquations.{by_ring, difference_zero}
 use Rattle.um_lp.proofs.Orders.{whole_difference}
 use Rattle.um_lp.proofs.Rows.{same_or_not}
-use Rattle.um_dual.proofs.Signs.{IsSide, turn, nonneg_zero}
+use Rattle.um_dual.proofs.Signs.{IsSide, turn, double, nonneg_zero, moves_up}
 use Rattle.um_num.proofs.Order.{not_below_same}
 use Rattle.um_dual.specs.Laws.{NoReturnLaw}
 use Rattle.um_dual.proofs.Changes.{leaving, Pair, paired, kept, greatest}
@@ -23,7 +23,7 @@ use Rattle.um_dual.proofs.Feasible.{side_of}
 use Rattle.um_dual.proofs.Gains.{at_basic_reduced, lacks_end}
 use Rattle.um_dual.proofs.Sided.{one_sided}
 use Rattle.um_dual.proofs.Traces.{norm, Run, run_of, trace, trace_first, trace_last}
-use Rattle.um_dual.proofs.Turns.{double, not_negative, moves, stays, no_entry, turned_product, turn-neg, turn-add, turn-mul}
+use Rattle.um_dual.proofs.Turns.{not_negative, stays, no_entry, turned_product, turn-neg, turn-add, turn-mul}
 
 -- ---- within the ends
 -- a value is not outside an end
@@ -234,7 +234,7 @@ module _ (s : State) (n : ℕ) (st : ℕ → State) (run : Run s n st) (again : 
       let lacks : IsPositive (turn a (add (number_of_end (end_at a (ends_of s t))) (neg (value_of Q t)))) =
       subst (λ (x : ℕ). IsPositive (turn a (add (number_of_end (end_at a (ends_of s x))) (neg (value_of Q x))))) pair.leaves (lacks_end Q (run.row pair.q) a nextQ.0.outside) in
       subst (λ (z : Rational). IsPositive z) (turned_product a to (v t) (move t) back_side side)
-      (positive-mul (turn a (turn to (v t))) (neg (turn a (move t))) (moves a to (v t) back_side side can)
+      (positive-mul (turn a (turn to (v t))) (neg (turn a (move t))) (moves_up a to (v t) back_side side can)
       (subst (λ (z : Rational). IsPositive z)
       (ap (λ (z : Rational). turn a (add z (neg (value_of Q t)))) (sym x_is)
       ∙ ap (turn a) (by_ring (value_of P t ∷ value_of Q t ∷ []) (var 0 ⊕ opp (var 1)) (opp (var 1 ⊕ opp (var 0))) refl)

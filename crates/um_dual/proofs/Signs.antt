@@ -36,7 +36,7 @@ Stands Zero d = d ≡ whole (pos 0)
 Stands Basic d = Unit {0}
 
 -- ---- signs
-double : (x : Rational) → neg (neg x) ≡ x
+pub double : (x : Rational) → neg (neg x) ≡ x
 double x = by_ring (x ∷ []) (opp (opp (var 0))) (var 0) refl
 
 neg_zero : neg (whole (pos 0)) ≡ whole (pos 0)
@@ -78,7 +78,7 @@ can_move_not_zero Upper Basic b h e = h
 can_move_not_zero Zero to b h e = h e
 can_move_not_zero Basic to b h e = h
 
-moves_up : (at to : At) (b : Rational) → IsSide at → IsSide to → CanMove at to b → IsPositive (turn at (turn to b))
+pub moves_up : (at to : At) (b : Rational) → IsSide at → IsSide to → CanMove at to b → IsPositive (turn at (turn to b))
 moves_up Lower Lower b i j h = h
 moves_up Lower Upper b i j h = positive_neg b h
 moves_up Upper Lower b i j h = positive_neg b h
@@ -90,7 +90,7 @@ moves_up Upper Basic b i j h = absurd j
 moves_up Zero to b i j h = absurd i
 moves_up Basic to b i j h = absurd i
 
-up_moves : (at to : At) (b : Rational) → IsSide at → IsSide to → IsPositive (turn at (turn to b)) → CanMove at to b
+pub up_moves : (at to : At) (b : Rational) → IsSide at → IsSide to → IsPositive (turn at (turn to b)) → CanMove at to b
 up_moves Lower Lower b i j h = h
 up_moves Lower Upper b i j h = negative_of b h
 up_moves Upper Lower b i j h = negative_of b h
@@ -208,7 +208,7 @@ side_after at to d q b i j hq hd most =
       subst (λ (z : Rational). IsNonNegative z) (ap (λ (z : Rational). add z (neg (size q))) same ∙ ap (λ (z : Rational). add (turn to (mul d (inverse b))) (neg z)) (size_turned to q j hq)) (most m),
     )))
 
-turn_gone : (to : At) (q : Rational) → turn to q ≡ whole (pos 0) → q ≡ whole (pos 0)
+pub turn_gone : (to : At) (q : Rational) → turn to q ≡ whole (pos 0) → q ≡ whole (pos 0)
 turn_gone Lower q e = e
 turn_gone Upper q e = sym (double q) ∙ ap neg e ∙ neg_zero
 turn_gone Zero q e = e

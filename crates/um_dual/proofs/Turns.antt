@@ -1,6 +1,6 @@
 -- Signs of products, turned to the side of an end.
 use Rattle.std.proofs.Common.{◌≡◌, ◌≢◌, arith, sym, ap, ◌∙◌, subst, refl, inl, inr, [], ◌∷◌}
-use Rattle.std.specs.Prelude.{ℤ, pos, negsuc, zero, suc, ◌<ℤ◌}
+use Rattle.std.specs.Prelude.{ℤ, pos, negsuc, zero, suc}
 use Rattle.std.proofs.lemmas.Int.{ints}
 use Rattle.um_laws.proofs.Ring.{var, nought, ◌⊕◌, ◌⊗◌, opp}
 use Rattle.um_laws.proofs.RationalField.{num_of_zero}
@@ -11,11 +11,8 @@ use Rattle.um_lp.specs.DualSteps.{CanMove}
 use Rattle.um_lp.specs.declared.board.At.{At}
 use Rattle.um_lp.specs.declared.board.At.TheVariants.{Lower, Upper, Zero, Basic}
 use Rattle.um_laws.proofs.RationalEquations.{by_ring}
-use Rattle.um_dual.proofs.Signs.{IsSide, turn, Stands, nonneg_zero, stands_turned}
+use Rattle.um_dual.proofs.Signs.{IsSide, turn, Stands, double, nonneg_zero, moves_up, up_moves, turn_gone, stands_turned}
 use Rattle.um_num.proofs.Order.{not_both}
-
-pub double : (x : Rational) → neg (neg x) ≡ x
-double x = by_ring (x ∷ []) (opp (opp (var 0))) (var 0) refl
 
 pub zero_not_positive : (x : Rational) → x ≡ whole (pos 0) → ¬ IsPositive x
 zero_not_positive x e h = let p = zero_parts x e in omega (arith, ints)
@@ -48,45 +45,8 @@ factor_positive x y h p = elim (sign_of y) [
     by q (negsuc n) e = absurd (omega (arith, ints))
 
 -- ---- what a column's entry says of its moves
-pub moves : (at to : At) (v : Rational) → IsSide at → IsSide to → CanMove at to v → IsPositive (turn at (turn to v))
-moves Lower Lower v i j h = h
-moves Lower Upper v i j h = minus v h
-  where
-    minus : (v : Rational) → v.num <ℤ pos 0 → IsPositive (neg v)
-    minus v h = elim (sign_of v) [ inl p ↦ absurd (omega (arith, ints)) | inr p ↦ p ]
-moves Upper Lower v i j h = minus v h
-  where
-    minus : (v : Rational) → v.num <ℤ pos 0 → IsPositive (neg v)
-    minus v h = elim (sign_of v) [ inl p ↦ absurd (omega (arith, ints)) | inr p ↦ p ]
-moves Upper Upper v i j h = subst (λ (z : Rational). IsPositive z) (sym (double v)) h
-moves Zero to v i j h = absurd i
-moves Basic to v i j h = absurd i
-moves Lower Zero v i j h = absurd j
-moves Lower Basic v i j h = absurd j
-moves Upper Zero v i j h = absurd j
-moves Upper Basic v i j h = absurd j
-
-below_zero : (v : Rational) → IsPositive (neg v) → v.num <ℤ pos 0
-below_zero v p = by v.num refl
-  where
-    by : (n : ℤ) → v.num ≡ n → v.num <ℤ pos 0
-    by (pos n) e = absurd (not_both v (omega (arith, ints)) p)
-    by (negsuc n) e = omega (arith, ints)
-
-pub can_move : (at to : At) (v : Rational) → IsSide at → IsSide to → IsPositive (turn at (turn to v)) → CanMove at to v
-can_move Lower Lower v i j h = h
-can_move Lower Upper v i j h = below_zero v h
-can_move Upper Lower v i j h = below_zero v h
-can_move Upper Upper v i j h = subst (λ (z : Rational). IsPositive z) (double v) h
-can_move Zero to v i j h = absurd i
-can_move Basic to v i j h = absurd i
-can_move Lower Zero v i j h = absurd j
-can_move Lower Basic v i j h = absurd j
-can_move Upper Zero v i j h = absurd j
-can_move Upper Basic v i j h = absurd j
-
 pub stays : (at to : At) (v : Rational) → IsSide at → IsSide to → ¬ CanMove at to v → IsNonNegative (neg (turn at (turn to v)))
-stays at to v i j h = not_positive (turn at (turn to v)) (λ p. h (can_move at to v i j p))
+stays at to v i j h = not_positive (turn at (turn to v)) (λ p. h (up_moves at to v i j p))
 
 pub no_entry : (v : Rational) → ¬ (v ≢ whole (pos 0)) → v ≡ whole (pos 0)
 no_entry v h = by v.num refl
@@ -133,19 +93,13 @@ turn-mul Upper x y = by_ring (x ∷ y ∷ []) (opp (var 0 ⊗ var 1)) (opp (var 
 turn-mul Zero x y = refl
 turn-mul Basic x y = refl
 
-pub turn-gone : (at : At) (x : Rational) → turn at x ≡ whole (pos 0) → x ≡ whole (pos 0)
-turn-gone Lower x e = e
-turn-gone Upper x e = sym (double x) ∙ ap neg e ∙ by_ring [] (opp nought) nought refl
-turn-gone Zero x e = e
-turn-gone Basic x e = e
-
 -- ---- what a step gains
 -- the entering column moves by g, its entry v times g is what the leaving column moves, to the side where it lacked
 entering_way : (at to : At) (v g l : Rational) → IsSide at → IsSide to → CanMove at to v → mul v g ≡ l → IsPositive (turn to l) → IsPositive (turn at g)
 entering_way at to v g l i j m e p =
     factor_positive (turn at (turn to v)) (turn at g)
     (subst (λ (z : Rational). IsPositive z) (ap (turn to) (sym e) ∙ turn-mul to v g ∙ sym (turn-twice at (turn to v) g)) p)
-    (moves at to v i j m)
+    (moves_up at to v i j m)
 
 -- the gain is not below 0
 pub gain_nonneg : (at to : At) (v g l d : Rational) → IsSide to → CanMove at to v → mul v g ≡ l → IsPositive (turn to l) → Stands at d → IsNonNegative (mul d g)
@@ -157,7 +111,7 @@ gain_nonneg Upper to v g l d j m e p h =
 
 no_gain_at : (at to : At) (v g l d : Rational) → IsSide at → IsSide to → CanMove at to v → mul v g ≡ l → IsPositive (turn to l) → Stands at d → mul d g ≡ whole (pos 0) → d ≡ whole (pos 0)
 no_gain_at at to v g l d i j m e p h z =
-    turn-gone at d (zero_or_positive (turn at d) (stands_turned at d i h) (λ q. zero_not_positive (mul d g) z (subst (λ (z : Rational). IsPositive z) (turn-twice at d g) (positive-mul (turn at d) (turn at g) q (entering_way at to v g l i j m e p)))))
+    turn_gone at d (zero_or_positive (turn at d) (stands_turned at d i h) (λ q. zero_not_positive (mul d g) z (subst (λ (z : Rational). IsPositive z) (turn-twice at d g) (positive-mul (turn at d) (turn at g) q (entering_way at to v g l i j m e p)))))
 
 -- and 0 only where the entering column's reduced cost is
 pub no_gain : (at to : At) (v g l d : Rational) → IsSide to → CanMove at to v → mul v g ≡ l → IsPositive (turn to l) → Stands at d → mul d g ≡ whole (pos 0) → d ≡ whole (pos 0)

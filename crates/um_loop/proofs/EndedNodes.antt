@@ -16,7 +16,7 @@ use Rattle.um_duality.specs.Relaxed.{StandsFor}
 use Rattle.um_cover.specs.Descents.{SplitsFit}
 use Rattle.um_cover.specs.Sites.{box_at}
 use Rattle.um_nodes.specs.declared.open_nodes.OpenNode.{OpenNode}
-use Rattle.um_progress.specs.Searches.{objective_of}
+use Rattle.um_progress.specs.Incumbents.{objective_of}
 use Rattle.um_solving.specs.RootBoxes.{IsWithinRoot}
 use Rattle.um_solving.specs.Endings.{EndedAs}
 use Rattle.um_solving.specs.Laws.{MayBegin, HeldSays, OwnSays}

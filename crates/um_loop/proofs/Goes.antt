@@ -29,7 +29,8 @@ use Rattle.um_nodes.specs.declared.open_nodes.OpenNode.{OpenNode}
 use Rattle.um_nodes.specs.declared.open_nodes.Key.{Key}
 use Rattle.um_progress.specs.declared.incumbent.Incumbent.{Incumbent}
 use Rattle.um_progress.specs.Waits.{KeyIs, WaitsIn}
-use Rattle.um_progress.specs.Searches.{objective_of, IsIncumbent, IsSearch, ChildWaits}
+use Rattle.um_progress.specs.Searches.{IsIncumbent, IsSearch, ChildWaits}
+use Rattle.um_progress.specs.Incumbents.{objective_of}
 use Rattle.um_progress.specs.Numbers.{Number}
 use Rattle.um_progress.proofs.Acts.{improve_act}
 use Rattle.um_solving.specs.Endings.{EndedAs}
@@ -42,7 +43,7 @@ use Rattle.um_tree.specs.Growths.{GrowthValue}
 use Rattle.um_split.specs.Branchings.{IsBranchOf, AsksForNone}
 use Rattle.um_turns.specs.Turns.{Turn, TurnEnd, Reached, Emptied, Halted, RunStopped, EndHolds, kept_multipliers}
 use Rattle.um_turns.specs.Histories.{History, IsHistory, AreFinished, IsBest, state_behind, left_behind}
-use Rattle.um_turns.specs.Laws.{HasShown}
+use Rattle.um_turns.specs.ShownRays.{HasShown}
 use Rattle.um_turns.proofs.Going.{shown_first, shown as shown_law}
 use Rattle.um_turns.specs.NextTurns.{IsNextTurn, IsNoBetter}
 use Rattle.um_turns.proofs.Bests.{best_stays, best_improves}

@@ -24,7 +24,8 @@ use Rattle.um_loop.specs.declared.search.Search.{Search}
 use Rattle.um_loop.specs.declared.search.Halt.{Halt}
 use Rattle.um_loop.specs.declared.search.Ending.{Ending}
 use Rattle.um_loop.specs.declared.search.Ending.TheVariants as ending
-use Rattle.um_loop.specs.Goings.{IsNoGrid, IsNoGridEnding}
+use Rattle.um_loop.specs.Goings.{IsNoGridEnding}
+use Rattle.um_turns.specs.Turns.{IsNoGrid}
 use Rattle.um_loop.specs.Steps.{IsVertex, AfterVertex, StoppedWith, EndSays, HasSettled}
 use Rattle.um_loop.proofs.Goes.{tight_of}
 use Rattle.um_loop.proofs.KeysClose.{best_below, vertex_closes}

@@ -18,7 +18,7 @@ use Rattle.um_cover.specs.Nodes.{BoundedIs, OpenIs}
 use Rattle.um_nodes.specs.declared.open_nodes.Key.{Key}
 use Rattle.um_progress.specs.declared.incumbent.Incumbent.{Incumbent}
 use Rattle.um_progress.specs.Waits.{KeyIs}
-use Rattle.um_progress.specs.Searches.{objective_of}
+use Rattle.um_progress.specs.Incumbents.{objective_of}
 use Rattle.um_solving.specs.Laws.{VertexSays}
 use Rattle.um_loop.specs.Steps.{IsNewBest, IsBestOf, IsClosing, IsNotClosing}
 

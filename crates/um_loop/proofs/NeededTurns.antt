@@ -19,7 +19,7 @@ use Rattle.um_progress.proofs.Changes.{IsChange}
 use Rattle.um_turns.specs.Turns.{Turn}
 use Rattle.um_turns.specs.Histories.{History, HasVertex, IsBest}
 use Rattle.um_turns.proofs.Lists.{get_pushed, get_inside}
-use Rattle.um_loop.specs.NeededTurns.{IsOpenBefore, IsNeeded, AreNeeded}
+use Rattle.um_turns.specs.NeededTurns.{IsOpenBefore, IsNeeded, AreNeeded}
 use Rattle.um_loop.specs.Steps.{IsNotClosing}
 use Rattle.um_loop.proofs.KeysClose.{open_still}
 

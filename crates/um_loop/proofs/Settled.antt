@@ -24,7 +24,8 @@ use Rattle.um_nodes.specs.declared.open_nodes.OpenNode.{OpenNode}
 use Rattle.um_progress.specs.declared.incumbent.Incumbent.{Incumbent}
 use Rattle.um_progress.specs.Numbers.{Number}
 use Rattle.um_progress.specs.Waits.{Every, IsFresh, KeyIs, WaitsIn}
-use Rattle.um_progress.specs.Searches.{objective_of, IsSearch, ChildIs, Settles}
+use Rattle.um_progress.specs.Searches.{IsSearch, ChildIs, Settles}
+use Rattle.um_progress.specs.Incumbents.{objective_of}
 use Rattle.um_progress.specs.Lineage.{number_of, IsLineage}
 use Rattle.um_progress.proofs.Acts.{open_leaf}
 use Rattle.um_progress.proofs.Settling.{settles_search}
@@ -44,7 +45,7 @@ use Rattle.um_turns.proofs.Waiting.{all_handed_more, part_handed}
 use Rattle.um_loop.specs.declared.search.Search.{Search}
 use Rattle.um_loop.specs.declared.search.Halt.{Halt}
 use Rattle.um_loop.specs.Goings.{IsKeyOf, IsGoing, HasTaken, HaltedAt, ray_with}
-use Rattle.um_loop.specs.NeededTurns.{IsOpenBefore, IsNeeded}
+use Rattle.um_turns.specs.NeededTurns.{IsOpenBefore, IsNeeded}
 use Rattle.um_loop.specs.Steps.{IsClosing, IsNotClosing, HasClosed, HasOwn}
 use Rattle.um_loop.proofs.ChildParts.{handed_under}
 use Rattle.um_loop.proofs.Depths.{keys_settled, part_keys}

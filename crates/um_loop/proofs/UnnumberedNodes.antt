@@ -16,7 +16,7 @@ use Rattle.um_progress.specs.Searches.{IsBounded, ChildWaits}
 use Rattle.um_turns.specs.Turns.{Turn}
 use Rattle.um_turns.specs.Histories.{History}
 use Rattle.um_turns.proofs.Turning.{handed_more}
-use Rattle.um_loop.specs.UnnumberedNodes.{MayBeUnsolved, IsUnnumbered, AreUnnumbered}
+use Rattle.um_turns.specs.UnnumberedNodes.{MayBeUnsolved, IsUnnumbered, AreUnnumbered}
 
 -- ---- one turn more
 what_more : (history : History) (n : Number Turn) (o : Option Origin) (w : WhatValue) → MayBeUnsolved history o w → MayBeUnsolved (history ++ n ∷ []) o w

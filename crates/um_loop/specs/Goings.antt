@@ -5,7 +5,6 @@ use Rattle.um_multipliers.specs.PlainMultipliers.{MultipliersValue, plain_multip
 use Rattle.um_model.specs.Values.{DeckValue, PointValue, plain_point}
 use Rattle.um_model.specs.Feasible.{Feasible}
 use Rattle.um_model.specs.Accepted.{IsSmallPoint}
-use Rattle.um_model.specs.declared.answer.Why.{Why}
 use Rattle.um_model.specs.declared.answer.Why.TheVariants as why
 use Rattle.um_lp.specs.States.{State}
 use Rattle.um_tree.specs.Growths.{GrowthValue, origin_at}
@@ -16,17 +15,17 @@ use Rattle.um_progress.specs.Numbers.{Number}
 use Rattle.um_progress.specs.Searches.{IsSearch}
 use Rattle.um_progress.specs.Lineage.{IsLineage}
 use Rattle.um_opening.specs.Numbers.{parts_of}
-use Rattle.um_turns.specs.Turns.{Turn, Reached, Halted, EndHolds, kept_multipliers}
+use Rattle.um_turns.specs.Turns.{Turn, Reached, Halted, EndHolds, kept_multipliers, IsNoGrid}
 use Rattle.um_turns.specs.Histories.{History, IsHistory, AreFinished, AreHanded, IsHanded, IsBest, state_behind, left_behind, ray_of}
 use Rattle.um_turns.specs.NextTurns.{IsNextTurn}
-use Rattle.um_turns.specs.Laws.{HasShown}
+use Rattle.um_turns.specs.ShownRays.{HasShown}
 use Rattle.um_loop.specs.declared.search.Search.{Search}
 use Rattle.um_loop.specs.declared.search.Halt.{Halt}
 use Rattle.um_loop.specs.declared.search.Ending.{Ending}
 use Rattle.um_loop.specs.declared.search.Ending.TheVariants as ending
 use Rattle.um_loop.specs.Steps.{IsNotClosing}
-use Rattle.um_loop.specs.UnnumberedNodes.{AreUnnumbered}
-use Rattle.um_loop.specs.NeededTurns.{IsOpenBefore, AreNeeded}
+use Rattle.um_turns.specs.UnnumberedNodes.{AreUnnumbered}
+use Rattle.um_turns.specs.NeededTurns.{IsOpenBefore, AreNeeded}
 
 -- how a search began: the state of its board, and how many pivots it had
 pub record Beginning : Type 0 where
@@ -79,11 +78,6 @@ pub record HasTaken (d : DeckValue) (start : State) (most : ℕ) (taken : OpenNo
   pub key : IsKeyOf s.growth taken
 
 -- ---- an early stop
-
--- the cause is no limit of the grid
-abbrev pub IsNoGrid : Why → Type 0
-IsNoGrid (why.Grid number) = ⊥
-IsNoGrid other = Unit {0}
 
 -- all nodes of the budget are solved, and the one in hand got no number: its key does not close it at the best point
 pub record HasSpent (d : DeckValue) (start : State) (most nodes : ℕ) (s : Search) (halt : Halt) (board : State) (left : ℕ) : Type 0 where

@@ -25,7 +25,8 @@ use Rattle.um_nodes.specs.declared.open_nodes.Key.{Key}
 use Rattle.um_nodes.specs.declared.open_nodes.OpenNode.{OpenNode}
 use Rattle.um_progress.specs.declared.incumbent.Incumbent.{Incumbent}
 use Rattle.um_progress.specs.Waits.{Every, KeyIs}
-use Rattle.um_progress.specs.Searches.{objective_of, IsLesser, ChildIs}
+use Rattle.um_progress.specs.Searches.{IsLesser, ChildIs}
+use Rattle.um_progress.specs.Incumbents.{objective_of}
 use Rattle.um_children.specs.NewChildren.{IsHanded, IsNewNode}
 use Rattle.um_split.specs.Branchings.{IsBranchOf, AsksForNone}
 use Rattle.um_split.specs.Laws.{IsPointOf}

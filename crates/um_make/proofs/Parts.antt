@@ -4,8 +4,8 @@ use Rattle.std.specs.List.{flat_map, list_any}
 use Rattle.std.proofs.lemmas.List.{map-append}
 use Rattle.std.proofs.lemmas.List.Folds.{flat_map-map}
 use Rattle.um_statements.specs.Statements.{Name}
-use Rattle.um_setsec.specs.Words.{Words}
-use Rattle.um_mps.specs.DeckLines.{Line, Heading, Data}
+use Rattle.um_decktext.specs.Words.{Words}
+use Rattle.um_decktext.specs.DeckLines.{Line, Heading, Data}
 use Rattle.um_model.specs.Values.{DeckValue, plain_column, plain_set}
 use Rattle.um_model.specs.declared.deck.Column.{Column}
 use Rattle.um_model.specs.declared.deck.Kind.TheVariants.{Integer}

@@ -1,8 +1,8 @@
 -- The bytes of parts of a normal text.
 use Rattle.std.specs.Prelude.{ℕ, Bool, true, false, List, [], ◌∷◌, map}
 use Rattle.um_text.specs.Texts.{lines_text}
-use Rattle.um_setsec.specs.Words.{Words}
-use Rattle.um_mps.specs.DeckLines.{Line, Data}
+use Rattle.um_decktext.specs.Words.{Words}
+use Rattle.um_decktext.specs.DeckLines.{Line, Data}
 use Rattle.um_make.specs.NormalLines.{line_words}
 
 -- the bytes of these lines

@@ -1,8 +1,8 @@
 -- The lines up to ENDATA, as a loop finds them.
 use Rattle.std.proofs.Common.{◌≡◌, Bool, true, false, List, [], ◌∷◌, ◌++◌, append_assoc, refl, sym, ◌∙◌, if◌then◌else◌}
 use Rattle.std.proofs.lemmas.List.{append-nil}
-use Rattle.um_mps.specs.DeckLines.{Line}
-use Rattle.um_mps.specs.DeckText.{is_end, counted}
+use Rattle.um_decktext.specs.DeckLines.{Line}
+use Rattle.um_decktext.specs.DeckText.{is_end, counted}
 use Rattle.um_mps.specs.Reading.{counted_behind}
 
 onward : (before lines : List Line) → counted_behind before lines ≡ before ++ counted lines

@@ -16,13 +16,14 @@ use Rattle.um_statements.specs.WellSaid.{HasNumbers}
 use Rattle.um_statements.specs.Laws.{IsDeckOfObjective}
 use Rattle.um_statements.proofs.SaidKept.{said-all-law}
 use Rattle.um_statements.proofs.MadeDeck.{made-deck-law}
-use Rattle.um_mps.specs.DeckLines.{Line, deck_lines}
-use Rattle.um_mps.specs.Places.{place_of}
-use Rattle.um_mps.specs.LinesSay.{line_says}
-use Rattle.um_mps.specs.DeckText.{DeckText, each_from, first_broken, is_end, known, line_fault, own_fault, text_deck, text_fault, told}
-use Rattle.um_mps.specs.Reading.{counted_behind, fault_behind}
+use Rattle.um_decktext.specs.DeckLines.{Line, deck_lines}
+use Rattle.um_decktext.specs.Places.{place_of}
+use Rattle.um_decktext.specs.LinesSay.{line_says}
+use Rattle.um_decktext.specs.DeckText.{DeckText, each_from, first_broken, is_end, known, line_fault, own_fault, text_deck, text_fault, told}
+use Rattle.um_mps.specs.Reading.{counted_behind}
+use Rattle.um_decktext.specs.LineByLine.{fault_behind}
 use Rattle.um_mps.proofs.CountedLines.{counted_found}
-use Rattle.um_mps.proofs.FirstBroken.{first_found}
+use Rattle.um_decktext.proofs.FirstBroken.{first_found}
 use Rattle.um_mps.proofs.ReaderSteps.{said_more}
 use Rattle.um_mps.proofs.LoopSteps.{start_unbroken}
 use Rattle.um_mps.proofs.SaysFine.{FineRules, IsFine, first_fine, line_fine, statements_fine}

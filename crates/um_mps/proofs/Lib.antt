@@ -1,6 +1,5 @@
 pub mod PairSteps
 pub mod PlaceSteps
-pub mod FirstBroken
 pub mod CountedLines
 pub mod ReaderSteps
 pub mod LoopSteps

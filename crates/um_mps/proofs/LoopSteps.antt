@@ -11,11 +11,12 @@ use Rattle.um_statements.specs.CallRules.{faults_in}
 use Rattle.um_statements.specs.Made.{deck_value}
 use Rattle.um_statements.specs.DeckRules.{deck_fault}
 use Rattle.um_mps.specs.declared.reader.ReadFault.{ReadFault}
-use Rattle.um_mps.specs.DeckLines.{Line, deck_lines, line_of}
-use Rattle.um_mps.specs.Places.{Place, place_of}
-use Rattle.um_mps.specs.DeckText.{DeckFault, DeckText, is_end, known, line_fault, own_fault, text_deck, text_fault, told}
-use Rattle.um_mps.specs.Reading.{IsBehind, IsPlace, IsReading, Reads, counted_behind, fault_behind}
-use Rattle.um_mps.proofs.FirstBroken.{first_found}
+use Rattle.um_decktext.specs.DeckLines.{Line, deck_lines, line_of}
+use Rattle.um_decktext.specs.Places.{Place, place_of}
+use Rattle.um_decktext.specs.DeckText.{DeckFault, DeckText, is_end, known, line_fault, own_fault, text_deck, text_fault, told}
+use Rattle.um_mps.specs.Reading.{IsBehind, IsPlace, IsReading, Reads, counted_behind}
+use Rattle.um_decktext.specs.LineByLine.{fault_behind}
+use Rattle.um_decktext.proofs.FirstBroken.{first_found}
 use Rattle.um_mps.proofs.CountedLines.{counted_found}
 use Rattle.um_mps.proofs.PlaceKept.{first_placed}
 

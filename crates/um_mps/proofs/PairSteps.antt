@@ -10,9 +10,9 @@ use Rattle.um_statements.specs.CallRules.{bare_ends, faults_in, with_statement, 
 use Rattle.um_statements.specs.Tells.{Tells, TellsAll}
 use Rattle.um_statements.proofs.PushedLists.{length_last}
 use Rattle.um_statements.proofs.CollectedSteps.{faults_append, all_append}
-use Rattle.um_setsec.specs.Words.{Words}
-use Rattle.um_setsec.specs.Numbers.{number}
-use Rattle.um_mps.specs.LinesSay.{pairs}
+use Rattle.um_decktext.specs.Words.{Words}
+use Rattle.um_decktext.specs.Numbers.{number}
+use Rattle.um_decktext.specs.LinesSay.{pairs}
 
 entry_keeps : (row : Name) (value : Decimal) (said : Said) → length (with_statement (Entry row value) said).columns ≡ length said.columns
 unfolding with_statement

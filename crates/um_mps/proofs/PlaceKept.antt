@@ -6,14 +6,14 @@ use Rattle.um_statements.specs.declared.fault.Fault.TheVariants.{SectionOrder, U
 use Rattle.um_statements.specs.Said.{Said, nothing_said}
 use Rattle.um_statements.specs.CallRules.{with_all}
 use Rattle.um_statements.specs.Tells.{TellsAll, says_fault, statements, wants_weight}
-use Rattle.um_setsec.specs.Words.{Words, first_word}
-use Rattle.um_mps.specs.declared.section.Section.{Section}
-use Rattle.um_mps.specs.declared.section.Section.TheVariants as section
-use Rattle.um_mps.specs.Sections.{is_section, rank, section_called}
-use Rattle.um_mps.specs.DeckLines.{data_now, section_now}
-use Rattle.um_mps.specs.Places.{Place, place_of}
+use Rattle.um_decktext.specs.Words.{Words, first_word}
+use Rattle.um_decktext.specs.declared.section.Section.{Section}
+use Rattle.um_decktext.specs.declared.section.Section.TheVariants as section
+use Rattle.um_decktext.specs.Sections.{is_section, rank, section_called}
+use Rattle.um_decktext.specs.DeckLines.{data_now, section_now}
+use Rattle.um_decktext.specs.Places.{Place, place_of}
 use Rattle.um_mps.specs.Behind.{GoesOn, behind_data, behind_heading, behind_section}
-use Rattle.um_mps.specs.LinesSay.{data_line, heading_line, heading_says, is_in_order}
+use Rattle.um_decktext.specs.LinesSay.{data_line, heading_line, heading_says, is_in_order}
 use Rattle.um_mps.specs.Reading.{IsPlace, is_before_sets}
 use Rattle.um_mps.proofs.SaysFine.{data_plain, heading_plain}
 use Rattle.um_mps.proofs.SetsKept.{set_told, wants_kept}

@@ -7,14 +7,14 @@ use Rattle.std.specs.List.{after_last, filter_map, last_or, list_any, prefix_len
 use Rattle.std.specs.Option.{option_and_then, option_map_or, option_or}
 use Rattle.um_statements.specs.Statements.{Name}
 use Rattle.um_statements.proofs.LastBounds.{last_push, last_of_push}
-use Rattle.um_setsec.specs.SetLines.{weights_told}
-use Rattle.um_mps.specs.declared.section.Section.{Section}
-use Rattle.um_mps.specs.declared.section.Section.TheVariants as section
-use Rattle.um_mps.specs.Sections.{is_section}
-use Rattle.um_setsec.specs.Words.{Words}
-use Rattle.um_mps.specs.DeckLines.{Line, Skipped, Heading, Data, data_now, data_words, has_section, heading_of, is_heading, section_now}
-use Rattle.um_mps.specs.LineWords.{is_marker, is_objective_line, opens}
-use Rattle.um_mps.specs.Places.{Place, column_of, first_line, is_open, last_column, place_of, set_in}
+use Rattle.um_decktext.specs.SetLines.{weights_told}
+use Rattle.um_decktext.specs.declared.section.Section.{Section}
+use Rattle.um_decktext.specs.declared.section.Section.TheVariants as section
+use Rattle.um_decktext.specs.Sections.{is_section}
+use Rattle.um_decktext.specs.Words.{Words}
+use Rattle.um_decktext.specs.DeckLines.{Line, Skipped, Heading, Data, data_now, data_words, has_section, heading_of, is_heading, section_now}
+use Rattle.um_decktext.specs.LineWords.{is_marker, is_objective_line, opens}
+use Rattle.um_decktext.specs.Places.{Place, column_of, first_line, is_open, last_column, place_of, set_in}
 use Rattle.um_mps.specs.Behind.{behind, behind_data, behind_section}
 
 -- ---- the lines behind the last heading

@@ -9,15 +9,15 @@ use Rattle.um_statements.specs.Said.{Said, nothing_said, collected}
 use Rattle.um_statements.specs.CallRules.{faults_in, with_all}
 use Rattle.um_statements.specs.Tells.{Says, TellsAll, says_fault, statements}
 use Rattle.um_statements.proofs.CollectedSteps.{more-law}
-use Rattle.um_mps.specs.declared.section.Section.{Section}
-use Rattle.um_mps.specs.declared.section.Section.TheVariants as section
-use Rattle.um_mps.specs.Sections.{is_section, section_called}
-use Rattle.um_setsec.specs.Words.{Words, first_word}
-use Rattle.um_mps.specs.DeckLines.{Line, Skipped, Heading, Data, is_skipped, line_of}
-use Rattle.um_mps.specs.Places.{Place, place_of}
+use Rattle.um_decktext.specs.declared.section.Section.{Section}
+use Rattle.um_decktext.specs.declared.section.Section.TheVariants as section
+use Rattle.um_decktext.specs.Sections.{is_section, section_called}
+use Rattle.um_decktext.specs.Words.{Words, first_word}
+use Rattle.um_decktext.specs.DeckLines.{Line, Skipped, Heading, Data, is_skipped, line_of}
+use Rattle.um_decktext.specs.Places.{Place, place_of}
 use Rattle.um_mps.specs.Behind.{behind, behind_data, behind_heading}
-use Rattle.um_mps.specs.LinesSay.{data_line, heading_line, heading_says, line_says}
-use Rattle.um_mps.specs.DeckText.{each_from, is_end, known, own_fault, told}
+use Rattle.um_decktext.specs.LinesSay.{data_line, heading_line, heading_says, line_says}
+use Rattle.um_decktext.specs.DeckText.{each_from, is_end, known, own_fault, told}
 use Rattle.um_mps.specs.Reading.{IsBehind, Reads}
 use Rattle.um_mps.proofs.PlaceSteps.{place_behind}
 

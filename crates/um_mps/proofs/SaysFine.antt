@@ -18,16 +18,16 @@ use Rattle.um_statements.specs.Statements.{Name, Statement, Arc, Bound, Column, 
 use Rattle.um_statements.specs.CallRules.{Rule, first_fault}
 use Rattle.um_statements.specs.Tells.{Says, statements}
 use Rattle.um_statements.specs.WellSaid.{HasNumbers, IsNumber}
-use Rattle.um_mps.specs.declared.section.Section.{Section}
-use Rattle.um_mps.specs.declared.section.Section.TheVariants as section
-use Rattle.um_mps.specs.Sections.{is_section, section_called}
-use Rattle.um_setsec.specs.Words.{Words, first_word}
-use Rattle.um_mps.specs.DeckLines.{Line, Skipped, Heading, Data}
-use Rattle.um_setsec.specs.Numbers.{number, read_as}
-use Rattle.um_setsec.specs.SetLines.{arc_says, member_line, set_head, set_kind, set_says}
-use Rattle.um_mps.specs.LineWords.{bare_bound, is_marker, row_kind, sense_called, set_of_bound, set_of_pairs, third_word, valued_bound}
-use Rattle.um_mps.specs.Places.{Place, is_used}
-use Rattle.um_mps.specs.LinesSay.{kinds, begun, behind_set, bound_line, bound_rules, bound_says, column_line, data_line, entry_line, heading_line, heading_rules, heading_says, heading_statements, line_says, pairs, pairs_line, row_line, second_word, sense_line, with_value, without_value}
+use Rattle.um_decktext.specs.declared.section.Section.{Section}
+use Rattle.um_decktext.specs.declared.section.Section.TheVariants as section
+use Rattle.um_decktext.specs.Sections.{is_section, section_called}
+use Rattle.um_decktext.specs.Words.{Words, first_word}
+use Rattle.um_decktext.specs.DeckLines.{Line, Skipped, Heading, Data}
+use Rattle.um_decktext.specs.Numbers.{number, read_as}
+use Rattle.um_decktext.specs.SetLines.{arc_says, member_line, set_head, set_kind, set_says}
+use Rattle.um_decktext.specs.LineWords.{bare_bound, is_marker, row_kind, sense_called, set_of_bound, set_of_pairs, third_word, valued_bound}
+use Rattle.um_decktext.specs.Places.{Place, is_used}
+use Rattle.um_decktext.specs.LinesSay.{kinds, begun, behind_set, bound_line, bound_rules, bound_says, column_line, data_line, entry_line, heading_line, heading_rules, heading_says, heading_statements, line_says, pairs, pairs_line, row_line, second_word, sense_line, with_value, without_value}
 
 abbrev NotMemory : Fault → Type 0
 NotMemory fault = fault ≢ Memory

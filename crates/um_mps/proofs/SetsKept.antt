@@ -13,10 +13,10 @@ use Rattle.um_statements.specs.Said.{Said, SetSaid, row_place}
 use Rattle.um_statements.specs.CallRules.{change_last, fault_of, faults_in, rules_of, with_all, with_statement}
 use Rattle.um_statements.specs.Tells.{Says, says_fault, statements, wants_weight}
 use Rattle.um_statements.proofs.LastBounds.{last_push}
-use Rattle.um_setsec.specs.Words.{Words, first_word}
-use Rattle.um_setsec.specs.Numbers.{number}
-use Rattle.um_setsec.specs.SetLines.{member_line, set_head, set_kind, set_says, weights_told}
-use Rattle.um_mps.specs.Places.{Place}
+use Rattle.um_decktext.specs.Words.{Words, first_word}
+use Rattle.um_decktext.specs.Numbers.{number}
+use Rattle.um_decktext.specs.SetLines.{member_line, set_head, set_kind, set_says, weights_told}
+use Rattle.um_decktext.specs.Places.{Place}
 use Rattle.um_mps.specs.Behind.{behind_set_line}
 use Rattle.um_mps.proofs.SaysFine.{IsPlain, NoSet, Plain, statements_plain}
 

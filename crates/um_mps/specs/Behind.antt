@@ -2,14 +2,14 @@
 use Rattle.std.specs.Prelude.{◌≡◌, ◌<◌, true, false, is_some, length, ◌||◌, if◌then◌else◌, Option, Some, None}
 use Rattle.std.specs.Option.{option_or}
 use Rattle.um_statements.specs.Said.{Said}
-use Rattle.um_mps.specs.declared.section.Section.{Section}
-use Rattle.um_mps.specs.declared.section.Section.TheVariants as section
-use Rattle.um_mps.specs.Sections.{section_called, is_section}
-use Rattle.um_setsec.specs.Words.{Words, first_word}
-use Rattle.um_setsec.specs.SetLines.{weights_told}
-use Rattle.um_mps.specs.DeckLines.{Line, Skipped, Heading, Data}
-use Rattle.um_mps.specs.LineWords.{is_objective_line, is_marker, opens, set_of_pairs, set_of_bound}
-use Rattle.um_mps.specs.Places.{Place, column_of}
+use Rattle.um_decktext.specs.declared.section.Section.{Section}
+use Rattle.um_decktext.specs.declared.section.Section.TheVariants as section
+use Rattle.um_decktext.specs.Sections.{section_called, is_section}
+use Rattle.um_decktext.specs.Words.{Words, first_word}
+use Rattle.um_decktext.specs.SetLines.{weights_told}
+use Rattle.um_decktext.specs.DeckLines.{Line, Skipped, Heading, Data}
+use Rattle.um_decktext.specs.LineWords.{is_objective_line, is_marker, opens, set_of_pairs, set_of_bound}
+use Rattle.um_decktext.specs.Places.{Place, column_of}
 
 -- behind a line of ROWS
 abbrev pub behind_row : Words → Place → Place

@@ -9,11 +9,11 @@ use Rattle.um_statements.specs.Said.{makes_semi}
 use Rattle.um_statements.specs.CallRules.{first_fault}
 use Rattle.um_statements.specs.Tells.{Says, needs_value}
 use Rattle.um_mps.specs.declared.bounds.BoundWords.{BoundWords}
-use Rattle.um_setsec.specs.Words.{Words}
-use Rattle.um_setsec.specs.Numbers.{number}
-use Rattle.um_setsec.specs.SetLines.{semi_says}
-use Rattle.um_mps.specs.LineWords.{set_of_bound}
-use Rattle.um_mps.specs.LinesSay.{bound_rules, bound_says}
+use Rattle.um_decktext.specs.Words.{Words}
+use Rattle.um_decktext.specs.Numbers.{number}
+use Rattle.um_decktext.specs.SetLines.{semi_says}
+use Rattle.um_decktext.specs.LineWords.{set_of_bound}
+use Rattle.um_decktext.specs.LinesSay.{bound_rules, bound_says}
 
 -- what a bound on a column says, whose value is this word, if any
 abbrev pub says_value : BoundKind → Name → Option Name → Says

@@ -6,7 +6,7 @@ use Rattle.um_model.specs.declared.deck.Row.{Row}
 use Rattle.um_model.specs.declared.deck.Kind.TheVariants.{Continuous, Integer, Semi}
 use Rattle.um_model.specs.declared.deck.SetKind.TheVariants.{S1, S2}
 use Rattle.um_statements.specs.declared.fault.Fault.TheVariants.{ArcRow, BadNumber, BadWords, CrossedBounds, EmptySet, Marker, NoEnd, NoObjective, NotFinite, SectionOrder, SemiInteger, TooFine, TooLarge, TwiceColumn, TwiceEntry, TwiceMember, TwiceRow, TwiceSet, UnknownColumn, UnknownKind, UnknownRow, UnknownSection}
-use Rattle.um_mps.specs.DeckText.{text_fault, text_deck}
+use Rattle.um_decktext.specs.DeckText.{text_fault, text_deck}
 
 -- these lines, each ended by LF
 abbrev pub text : List (List ℕ) → List ℕ

@@ -4,7 +4,7 @@ use Rattle.um_model.specs.Values.{DeckValue}
 use Rattle.um_statements.specs.declared.fault.Fault.{Fault}
 use Rattle.um_statements.specs.declared.fault.Fault.TheVariants.{Memory}
 use Rattle.um_statements.specs.Laws.{IsDeckOfObjective}
-use Rattle.um_mps.specs.DeckText.{DeckFault, DeckText}
+use Rattle.um_decktext.specs.DeckText.{DeckFault, DeckText}
 
 -- a line and the rule that is broken there
 pub record Broken (bytes : List ℕ) : Type 0 where

@@ -1,12 +1,6 @@
-pub mod Sections
-pub mod DeckLines
-pub mod LineWords
 pub mod Pairs
-pub mod Places
 pub mod Behind
-pub mod LinesSay
 pub mod Bounds
-pub mod DeckText
 pub mod Reading
 pub mod Laws
 pub mod Examples

@@ -1,17 +1,18 @@
 -- What the reader knows behind some lines of a text.
-use Rattle.std.specs.Prelude.{◌≡◌, ◌⊎◌, ◌+◌, ◌<◌, ℕ, Bool, true, is_some, nat_lt, if◌then◌else◌, List, [], ◌∷◌, ◌++◌, length, Option, Some, None, option_map, Result, MatchResult}
-use Rattle.std.specs.Option.{option_map_or, option_or}
+use Rattle.std.specs.Prelude.{◌≡◌, ◌⊎◌, ◌<◌, ℕ, Bool, true, is_some, nat_lt, if◌then◌else◌, List, [], ◌∷◌, ◌++◌, length, Option, Some, None, Result, MatchResult}
+use Rattle.std.specs.Option.{option_map_or}
 use Rattle.um_statements.specs.declared.fault.Fault.{Fault}
-use Rattle.um_statements.specs.declared.fault.Fault.TheVariants.{NoEnd, Memory}
+use Rattle.um_statements.specs.declared.fault.Fault.TheVariants.{Memory}
 use Rattle.um_statements.specs.Said.{Said, nothing_said}
 use Rattle.um_statements.specs.CallRules.{faults_in}
 use Rattle.um_statements.specs.Tells.{wants_weight}
-use Rattle.um_mps.specs.declared.section.Section.{Section}
-use Rattle.um_mps.specs.declared.section.Section.TheVariants as section
-use Rattle.um_mps.specs.Sections.{is_section, rank}
-use Rattle.um_mps.specs.DeckLines.{Line}
-use Rattle.um_mps.specs.Places.{Place, place_of}
-use Rattle.um_mps.specs.DeckText.{told, known, own_fault, line_fault, is_end}
+use Rattle.um_decktext.specs.declared.section.Section.{Section}
+use Rattle.um_decktext.specs.declared.section.Section.TheVariants as section
+use Rattle.um_decktext.specs.Sections.{is_section, rank}
+use Rattle.um_decktext.specs.DeckLines.{Line}
+use Rattle.um_decktext.specs.Places.{Place, place_of}
+use Rattle.um_decktext.specs.DeckText.{told, known, own_fault, is_end}
+use Rattle.um_decktext.specs.LineByLine.{fault_behind}
 
 -- a section that comes before SOS, or none yet
 abbrev pub is_before_sets : Option Section → Bool
@@ -39,13 +40,6 @@ Reads before line result place maker = MatchResult result
     (λ fault. (fault ≡ Memory) ⊎ (own_fault before line ≡ Some fault))
 
 -- ---- the loop over the lines
-
--- the line and the fault of the first broken rule, in the lines behind others
-abbrev pub fault_behind : List Line → List Line → Option (ℕ × Fault)
-fault_behind before [] = Some (length before, NoEnd)
-fault_behind before (line ∷ lines) =
-    option_or (option_map (λ fault. (length before + 1, fault)) (line_fault before line))
-    (if is_end line then None else fault_behind (before ++ line ∷ []) lines)
 
 -- the lines up to ENDATA, behind others
 abbrev pub counted_behind : List Line → List Line → List Line

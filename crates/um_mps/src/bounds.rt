@@ -3,9 +3,9 @@
 ghost use Rattle.std.specs.Prelude.{◌≡◌, IfSome, None, OnOk, Some, false, is_some, true};
 ghost use Rattle.um_statements.specs.Said.{makes_semi};
 ghost use Rattle.um_statements.specs.Tells.{TellsAll, needs_value};
-ghost use Rattle.um_setsec.specs.Words.{first_word};
-ghost use Rattle.um_mps.specs.LineWords.{bare_bound, valued_bound};
-ghost use Rattle.um_mps.specs.LinesSay.{bound_line, bound_says};
+ghost use Rattle.um_decktext.specs.Words.{first_word};
+ghost use Rattle.um_decktext.specs.LineWords.{bare_bound, valued_bound};
+ghost use Rattle.um_decktext.specs.LinesSay.{bound_line, bound_says};
 ghost use Rattle.um_mps.specs.Bounds.{AreBoundWords, IsBound};
 ghost use Rattle.um_mps.specs.Behind.{behind_bound};
 

@@ -4,8 +4,8 @@ ghost use Rattle.std.specs.Prelude.{◌≡◌, ◌<◌, ◌++◌, map, Ok, OnOk,
 ghost use Rattle.std.specs.Option.{option_eq};
 ghost use Rattle.std.specs.Str.{bytes_eq};
 ghost use Rattle.um_statements.specs.Tells.{TellsAll};
-ghost use Rattle.um_mps.specs.LineWords.{is_marker, opens};
-ghost use Rattle.um_mps.specs.LinesSay.{begun, column_line, entry_line, marker_line};
+ghost use Rattle.um_decktext.specs.LineWords.{is_marker, opens};
+ghost use Rattle.um_decktext.specs.LinesSay.{begun, column_line, entry_line, marker_line};
 ghost use Rattle.um_statements.specs.Statements.{Entry};
 ghost use Rattle.um_mps.specs.Pairs.{AreNumbers, pairs_of};
 ghost use Rattle.um_mps.specs.Behind.{behind_column, GoesOn};

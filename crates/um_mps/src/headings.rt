@@ -5,13 +5,13 @@ ghost use Rattle.std.specs.Option.{option_and_then, option_map_or};
 ghost use Rattle.um_statements.specs.CallRules.{faults_in, first_fault, with_all};
 ghost use Rattle.um_statements.specs.Statements.{Sense};
 ghost use Rattle.um_statements.specs.Tells.{TellsAll};
-ghost use Rattle.um_mps.specs.LineWords.{sense_called};
-ghost use Rattle.um_mps.specs.LinesSay.{heading_line, heading_rules, heading_statements, second_word};
+ghost use Rattle.um_decktext.specs.LineWords.{sense_called};
+ghost use Rattle.um_decktext.specs.LinesSay.{heading_line, heading_rules, heading_statements, second_word};
 ghost use Rattle.um_mps.specs.Behind.{behind_heading};
 
 use crate::place::Place;
 use crate::rows::sense_called;
-use crate::section::Section;
+use um_decktext::Section;
 use um_maker::{DeckMaker, Fault};
 use um_setsec::word;
 use um_text::Words;

@@ -4,9 +4,9 @@ ghost use Rattle.std.specs.Prelude.{◌≡◌, ◌≤◌, ◌+◌, [], Ok, Err, 
 ghost use Rattle.std.specs.Option.{option_copied};
 ghost use Rattle.um_statements.specs.Tells.{Tells, TellsAll};
 ghost use Rattle.um_statements.specs.WellSaid.{IsNumber};
-ghost use Rattle.um_setsec.specs.Numbers.{number as number_of};
-ghost use Rattle.um_mps.specs.LineWords.{set_of_pairs};
-ghost use Rattle.um_mps.specs.LinesSay.{pairs as pairs_in, pairs_line};
+ghost use Rattle.um_decktext.specs.Numbers.{number as number_of};
+ghost use Rattle.um_decktext.specs.LineWords.{set_of_pairs};
+ghost use Rattle.um_decktext.specs.LinesSay.{pairs as pairs_in, pairs_line};
 ghost use Rattle.um_mps.specs.Behind.{behind_pairs};
 ghost use Rattle.um_mps.specs.Pairs.{AreNumbers, MayTell, pairs_of, statement};
 

@@ -3,14 +3,14 @@
 ghost use Rattle.std.specs.Prelude.{◌≡◌, [], Some};
 ghost use Rattle.std.specs.Option.{option_copied, option_eq, option_or};
 ghost use Rattle.std.specs.Str.{bytes_eq};
-ghost use Rattle.um_mps.specs.declared.section.Section.TheVariants as section;
-ghost use Rattle.um_mps.specs.Sections.{is_section};
-ghost use Rattle.um_mps.specs.Places.{place_of, is_used};
-ghost use Rattle.um_mps.specs.LinesSay.{is_in_order};
+ghost use Rattle.um_decktext.specs.declared.section.Section.TheVariants as section;
+ghost use Rattle.um_decktext.specs.Sections.{is_section};
+ghost use Rattle.um_decktext.specs.Places.{place_of, is_used};
+ghost use Rattle.um_decktext.specs.LinesSay.{is_in_order};
 ghost use Rattle.um_mps.specs.Behind.{behind_section};
 
-use crate::section::Section;
 use std::marker::Model;
+use um_decktext::Section;
 
 /// The place of a line: what the lines before it say of how it is read. Contracts see it as that.
 #[derive(Drop)]
@@ -34,7 +34,7 @@ pub struct Place<'b> {
 impl<'b> Model for Place<'b> {
     ghost use Rattle.std.specs.Prelude.{option_map};
     ghost use Rattle.std.specs.Option.{option_copied};
-    ghost use Rattle.um_mps.specs.Places.{Place as Known};
+    ghost use Rattle.um_decktext.specs.Places.{Place as Known};
 
     ghost Value = { Known };
 
@@ -43,7 +43,7 @@ impl<'b> Model for Place<'b> {
 
 impl<'b> Place<'b> {
     /// The place of the first line.
-    #[tactic(auto, unfolding(crate::specs::Places::place_of, crate::specs::DeckLines::section_now, crate::specs::DeckLines::data_now))]
+    #[tactic(auto, unfolding(um_decktext::specs::Places::place_of, um_decktext::specs::DeckLines::section_now, um_decktext::specs::DeckLines::data_now))]
     pub fn start() -> Place<'b>
         ensures { result ≡ place_of [] }
     {

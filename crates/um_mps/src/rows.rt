@@ -3,8 +3,8 @@
 ghost use Rattle.std.specs.Prelude.{◌≡◌, OnOk};
 ghost use Rattle.um_statements.specs.Tells.{TellsAll};
 ghost use Rattle.um_statements.specs.CallRules.{is_n};
-ghost use Rattle.um_mps.specs.LineWords.{row_kind, sense_called};
-ghost use Rattle.um_mps.specs.LinesSay.{row_line, sense_line};
+ghost use Rattle.um_decktext.specs.LineWords.{row_kind, sense_called};
+ghost use Rattle.um_decktext.specs.LinesSay.{row_line, sense_line};
 ghost use Rattle.um_mps.specs.Behind.{behind_row};
 
 use crate::place::Place;

@@ -2,7 +2,7 @@
 
 ghost use Rattle.std.specs.Prelude.{◌≡◌, OnOk};
 ghost use Rattle.um_statements.specs.Tells.{TellsAll, wants_weight};
-ghost use Rattle.um_setsec.specs.SetLines.{set_says};
+ghost use Rattle.um_decktext.specs.SetLines.{set_says};
 ghost use Rattle.um_mps.specs.Behind.{behind_set_line};
 
 use crate::place::Place;

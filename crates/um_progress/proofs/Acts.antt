@@ -15,7 +15,8 @@ use Rattle.um_nodes.specs.declared.open_nodes.OpenNode.{OpenNode}
 use Rattle.um_progress.specs.declared.incumbent.Incumbent.{Incumbent}
 use Rattle.um_progress.specs.Waits.{Every, IsOpenLeaf, WaitsIn, id_of}
 use Rattle.um_progress.specs.Numbers.{Number, IsNumbered}
-use Rattle.um_progress.specs.Searches.{objective_of, IsIncumbent, IsBounded, IsLeastClosed, IsLesser, IsSearch}
+use Rattle.um_progress.specs.Searches.{IsIncumbent, IsBounded, IsLeastClosed, IsLesser, IsSearch}
+use Rattle.um_progress.specs.Incumbents.{objective_of}
 use Rattle.um_progress.proofs.Changes.{IsChange, settle_changes, all_wait_on, which, closed_on, closed_more}
 use Rattle.um_progress.proofs.Numbering.{numbered_on, numbered_more}
 

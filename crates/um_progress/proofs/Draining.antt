@@ -26,7 +26,8 @@ use Rattle.um_nodes.specs.declared.open_nodes.OpenNode.{OpenNode}
 use Rattle.um_progress.specs.declared.incumbent.Incumbent.{Incumbent}
 use Rattle.um_progress.specs.Waits.{Every, IsOpenLeaf, IsFresh, WaitsIn, id_of}
 use Rattle.um_progress.specs.Numbers.{Number, IsNumbered}
-use Rattle.um_progress.specs.Searches.{objective_of, IsIncumbent, held, IsBounded, IsSearch}
+use Rattle.um_progress.specs.Searches.{IsIncumbent, held, IsBounded, IsSearch}
+use Rattle.um_progress.specs.Incumbents.{objective_of}
 use Rattle.um_progress.specs.Stops.{Covers, IsBoundOfOne, IsCounted, Counts, IsDraining, bound_of}
 use Rattle.um_progress.specs.Ends.{stopped}
 use Rattle.um_progress.proofs.Acts.{open_leaf}

@@ -21,7 +21,8 @@ use Rattle.um_nodes.specs.declared.open_nodes.OpenNode.{OpenNode}
 use Rattle.um_progress.specs.declared.incumbent.Incumbent.{Incumbent}
 use Rattle.um_progress.specs.Waits.{Every, IsOpenLeaf, IsFresh, KeyIs, WaitsIn, id_of}
 use Rattle.um_progress.specs.Numbers.{Number}
-use Rattle.um_progress.specs.Searches.{objective_of, IsBounded, IsSearch, ChildWaits, ChildIs}
+use Rattle.um_progress.specs.Searches.{IsBounded, IsSearch, ChildWaits, ChildIs}
+use Rattle.um_progress.specs.Incumbents.{objective_of}
 use Rattle.um_progress.proofs.Changes.{IsChange, split_changes, all_wait_on, which, closed_on}
 use Rattle.um_progress.proofs.Numbering.{numbered_more}
 use Rattle.um_progress.proofs.Acts.{every_join, ids_join, distinct_last, open_unbounded, open_leaf}

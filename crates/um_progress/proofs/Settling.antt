@@ -20,7 +20,8 @@ use Rattle.um_nodes.specs.declared.open_nodes.OpenNode.{OpenNode}
 use Rattle.um_progress.specs.declared.incumbent.Incumbent.{Incumbent}
 use Rattle.um_progress.specs.Waits.{IsOpenLeaf, WaitsIn}
 use Rattle.um_progress.specs.Numbers.{Number, IsNumbered, IsNext}
-use Rattle.um_progress.specs.Searches.{objective_of, IsBounded, IsLeastClosed, IsSearch, IsEntryOf, Settles}
+use Rattle.um_progress.specs.Searches.{IsBounded, IsLeastClosed, IsSearch, IsEntryOf, Settles}
+use Rattle.um_progress.specs.Incumbents.{objective_of}
 use Rattle.um_progress.specs.Stops.{Counts, IsStopping, bound_of}
 use Rattle.um_progress.specs.Ends.{rooted, optimal, infeasible, stopped}
 use Rattle.um_progress.proofs.Acts.{take_act, settle_act, unnumbered, numbered, not_bounded, one_bounded}

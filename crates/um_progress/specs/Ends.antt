@@ -1,7 +1,7 @@
 -- The tree that a search begins with, and the answers that follow from it.
 use Rattle.std.specs.Prelude.{ℤ, List, [], ◌∷◌, Option, Some, None}
 use Rattle.um_laws.specs.Rational.{Rational}
-use Rattle.um_model.specs.Values.{PointValue, plain_point}
+use Rattle.um_model.specs.Values.{plain_point}
 use Rattle.um_model.specs.AnswerValues.{AnswerValue, NodeValue, OpenLeaf}
 use Rattle.um_model.specs.declared.answer.AnswerKind.TheVariants.{Optimal, Infeasible as HasNone}
 use Rattle.um_model.specs.declared.answer.AnswerKind.{AnswerKind}
@@ -9,16 +9,11 @@ use Rattle.um_model.specs.declared.answer.Why.{Why}
 use Rattle.um_multipliers.specs.PlainMultipliers.{MultipliersValue}
 use Rattle.um_tree.specs.Growths.{GrowthValue}
 use Rattle.um_progress.specs.declared.incumbent.Incumbent.{Incumbent}
-use Rattle.um_progress.specs.Searches.{objective_of}
+use Rattle.um_progress.specs.Incumbents.{objective_of, point_of}
 
 -- the root, open with these multipliers
 abbrev pub rooted : MultipliersValue → GrowthValue
 rooted y = record { origins = None ∷ []; nodes = record { solved = None; what = OpenLeaf y } ∷ [] }
-
--- the best point, if there is one
-abbrev pub point_of : Option Incumbent → Option PointValue
-point_of None = None
-point_of (Some i) = Some (plain_point i.point)
 
 -- where nothing waits, the best point is optimal, with the least bound of the nodes that were closed
 abbrev pub optimal : ℤ → Incumbent → Rational → List NodeValue → AnswerValue

@@ -24,7 +24,8 @@ use Rattle.um_nodes.specs.declared.open_nodes.OpenNode.{OpenNode}
 use Rattle.um_progress.specs.declared.incumbent.Incumbent.{Incumbent}
 use Rattle.um_progress.specs.Waits.{IsFresh, KeyIs, WaitsIn}
 use Rattle.um_progress.specs.Numbers.{Number, IsNumbered, IsNext}
-use Rattle.um_progress.specs.Searches.{IsSearch, IsIncumbent, IsBounded, IsEntryOf, ChildIs, Settles, IsLesser, objective_of}
+use Rattle.um_progress.specs.Searches.{IsSearch, IsIncumbent, IsBounded, IsEntryOf, ChildIs, Settles, IsLesser}
+use Rattle.um_progress.specs.Incumbents.{objective_of}
 use Rattle.um_progress.specs.Stops.{Counts, IsStopping, bound_of}
 use Rattle.um_progress.specs.Ends.{rooted, optimal, infeasible, stopped}
 use Rattle.um_progress.specs.Lineage.{number_of, NumbersRise, IsLineage}

@@ -1,3 +1,4 @@
+pub mod Incumbents
 pub mod Waits
 pub mod Numbers
 pub mod Searches

@@ -1,5 +1,5 @@
 -- A search between two acts.
-use Rattle.std.specs.Prelude.{◌≡◌, ℕ, ◌+◌, ◌*◌, ◌<◌, ◌≤◌, ℤ, ◌⊎◌, List, [], ◌∷◌, length, map, Option, Some, None, IfSome, IsSomeAnd, option_map, ◌^◌, unsigned_abs}
+use Rattle.std.specs.Prelude.{◌≡◌, ℕ, ◌+◌, ◌*◌, ◌<◌, ◌≤◌, ℤ, ◌⊎◌, List, [], ◌∷◌, length, map, Option, Some, None, IfSome, IsSomeAnd, ◌^◌, unsigned_abs}
 use Rattle.um_laws.specs.Rational.{Rational}
 use Rattle.um_multipliers.specs.PlainMultipliers.{plain_multipliers}
 use Rattle.um_model.specs.Values.{DeckValue, plain_point}
@@ -12,12 +12,9 @@ use Rattle.um_tree.specs.Growths.{GrowthValue, IsGrowth, what_at, IsAmong, AreDi
 use Rattle.um_cover.specs.Nodes.{NodeIs, NodesAre, OpenIs, bounds_by}
 use Rattle.um_nodes.specs.declared.open_nodes.OpenNode.{OpenNode}
 use Rattle.um_progress.specs.declared.incumbent.Incumbent.{Incumbent}
+use Rattle.um_progress.specs.Incumbents.{objective_of}
 use Rattle.um_progress.specs.Waits.{Every, IsOpenLeaf, IsFresh, KeyIs, WaitsIn, id_of}
 use Rattle.um_progress.specs.Numbers.{Number, IsNumbered}
-
--- the objective of the best point so far, if there is one
-abbrev pub objective_of : Option Incumbent → Option Rational
-objective_of i = option_map (λ (x : Incumbent). x.objective) i
 
 -- a feasible point of small numbers, with its objective
 pub record IsIncumbent (d : DeckValue) (i : Incumbent) : Type 0 where

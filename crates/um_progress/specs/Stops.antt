@@ -9,7 +9,8 @@ use Rattle.um_nodes.specs.declared.open_nodes.OpenNode.{OpenNode}
 use Rattle.um_progress.specs.declared.incumbent.Incumbent.{Incumbent}
 use Rattle.um_progress.specs.Waits.{Every, IsFresh, WaitsIn, id_of}
 use Rattle.um_progress.specs.Numbers.{Number, IsNumbered}
-use Rattle.um_progress.specs.Searches.{objective_of, IsIncumbent, IsLesser}
+use Rattle.um_progress.specs.Searches.{IsIncumbent, IsLesser}
+use Rattle.um_progress.specs.Incumbents.{objective_of}
 
 -- what is known of the bounds covers this one: that it is missing is known, or it is not below the least
 abbrev pub Covers : Bool → Option Rational → Option Rational → Type 0

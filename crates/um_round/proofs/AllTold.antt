@@ -3,11 +3,11 @@ use Rattle.std.proofs.Common.{◌≡◌, List, [], ◌∷◌, ◌++◌, sym, ap,
 use Rattle.um_model.specs.Values.{DeckValue}
 use Rattle.um_model.specs.WellFormed.{IsDeck}
 use Rattle.um_statements.specs.Statements.{Statement}
-use Rattle.um_mps.specs.declared.section.Section.TheVariants as section
-use Rattle.um_mps.specs.DeckLines.{Line}
+use Rattle.um_decktext.specs.declared.section.Section.TheVariants as section
+use Rattle.um_decktext.specs.DeckLines.{Line}
 use Rattle.um_statements.specs.Tells.{Says}
-use Rattle.um_mps.specs.Places.{place_of}
-use Rattle.um_mps.specs.LinesSay.{line_says}
+use Rattle.um_decktext.specs.Places.{place_of}
+use Rattle.um_decktext.specs.LinesSay.{line_says}
 use Rattle.um_make.specs.NormalLines.{columns_data, front_lines, columns_lines, back_lines, normal_lines}
 use Rattle.um_round.proofs.NormalTold.{front_told, columns_told, back_told, normal_told}
 use Rattle.um_round.specs.Sayable.{HasWordNames}

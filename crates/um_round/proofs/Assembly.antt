@@ -14,14 +14,14 @@ use Rattle.um_statements.specs.CallRules.{fault_of, with_statement, faults_in, w
 use Rattle.um_statements.specs.DeckRules.{deck_fault}
 use Rattle.um_statements.proofs.CollectedSteps.{collected-law}
 use Rattle.um_statements.specs.Made.{deck_value}
-use Rattle.um_setsec.specs.Words.{Words}
-use Rattle.um_mps.specs.DeckLines.{Line, Heading, Data, deck_lines}
+use Rattle.um_decktext.specs.Words.{Words}
+use Rattle.um_decktext.specs.DeckLines.{Line, Heading, Data, deck_lines}
 use Rattle.um_statements.specs.Tells.{Says, statements, says_fault}
-use Rattle.um_mps.specs.Places.{place_of}
-use Rattle.um_mps.specs.LinesSay.{line_says}
-use Rattle.um_mps.specs.DeckText.{each_from, told, is_end, line_fault, counted, first_broken, text_fault, text_deck, DeckText}
-use Rattle.um_mps.specs.Reading.{fault_behind}
-use Rattle.um_mps.proofs.FirstBroken.{first_found}
+use Rattle.um_decktext.specs.Places.{place_of}
+use Rattle.um_decktext.specs.LinesSay.{line_says}
+use Rattle.um_decktext.specs.DeckText.{each_from, told, is_end, line_fault, counted, first_broken, text_fault, text_deck, DeckText}
+use Rattle.um_decktext.specs.LineByLine.{fault_behind}
+use Rattle.um_decktext.proofs.FirstBroken.{first_found}
 use Rattle.um_make.specs.NormalLines.{title_words, sense_lines, section_of, columns_lines, back_lines, rows_data, columns_data, sides_data, ranges_data, bounds_data, sets_data, arcs_data, sides_of, ranges_of, column_bounds, normal_lines, normal_text}
 use Rattle.um_round.proofs.EachItem.{Each}
 use Rattle.um_round.proofs.NormalTold.{side_told, range_told, bound_told, sets_told, arc_told, section_told, front_told, columns_told, back_told, normal_told, normal_statements}

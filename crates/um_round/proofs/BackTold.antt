@@ -15,16 +15,16 @@ use Rattle.um_statements.specs.declared.parts.BoundKind.{BoundKind}
 use Rattle.um_statements.specs.declared.parts.BoundKind.TheVariants.{Up, Lo, Fr, Mi, Sc}
 use Rattle.um_statements.specs.Statements.{Name, Statement, Side, Range, Set}
 use Rattle.um_statements.proofs.Grouped.{quiet}
-use Rattle.um_mps.specs.declared.section.Section.{Section}
-use Rattle.um_mps.specs.declared.section.Section.TheVariants as section
-use Rattle.um_mps.specs.Sections.{section_called, rank, is_section}
-use Rattle.um_setsec.specs.Words.{Words}
-use Rattle.um_setsec.specs.SetLines.{set_kind, set_says, arc_says, weights_told}
-use Rattle.um_mps.specs.DeckLines.{Line, Heading, Data}
+use Rattle.um_decktext.specs.declared.section.Section.{Section}
+use Rattle.um_decktext.specs.declared.section.Section.TheVariants as section
+use Rattle.um_decktext.specs.Sections.{section_called, rank, is_section}
+use Rattle.um_decktext.specs.Words.{Words}
+use Rattle.um_decktext.specs.SetLines.{set_kind, set_says, arc_says, weights_told}
+use Rattle.um_decktext.specs.DeckLines.{Line, Heading, Data}
 use Rattle.um_statements.specs.Tells.{Says}
-use Rattle.um_mps.specs.LineWords.{set_of_bound, set_of_pairs}
-use Rattle.um_mps.specs.Places.{place_of, is_open, is_used, set_in}
-use Rattle.um_mps.specs.LinesSay.{line_says, data_line, pairs_line, bound_line}
+use Rattle.um_decktext.specs.LineWords.{set_of_bound, set_of_pairs}
+use Rattle.um_decktext.specs.Places.{place_of, is_open, is_used, set_in}
+use Rattle.um_decktext.specs.LinesSay.{line_says, data_line, pairs_line, bound_line}
 use Rattle.um_make.specs.NormalLines.{Number, number_words, section_of, sides_of, sides_data, ranges_of, ranges_data, BoundPart, bound_line_of, bound_words, column_bounds, bounds_data, set_word, column_name, member_words, set_data, sets_data, arc_number, arc_line_of, arc_words, arcs_data, back_lines}
 use Rattle.um_round.proofs.EachItem.{Each, Each-append, Each-from}
 use Rattle.um_round.proofs.NormalTold.{section_told, side_told, range_told, bound_told, member_told, set_told, sets_told, arc_told_of, arc_told, back_told}

@@ -14,13 +14,13 @@ use Rattle.um_model.specs.declared.deck.Kind.{Kind}
 use Rattle.um_model.specs.declared.deck.Kind.TheVariants.{Continuous, Integer, Semi}
 use Rattle.um_statements.specs.Statements.{Name, Statement, Column}
 use Rattle.um_statements.proofs.Grouped.{quiet}
-use Rattle.um_mps.specs.declared.section.Section.TheVariants as section
-use Rattle.um_setsec.specs.Words.{Words, first_word}
-use Rattle.um_mps.specs.DeckLines.{Line, Heading, Data}
+use Rattle.um_decktext.specs.declared.section.Section.TheVariants as section
+use Rattle.um_decktext.specs.Words.{Words, first_word}
+use Rattle.um_decktext.specs.DeckLines.{Line, Heading, Data}
 use Rattle.um_statements.specs.Tells.{Says}
-use Rattle.um_mps.specs.LineWords.{is_marker, opens}
-use Rattle.um_mps.specs.Places.{is_open, column_of, last_column}
-use Rattle.um_mps.specs.LinesSay.{data_line, column_line}
+use Rattle.um_decktext.specs.LineWords.{is_marker, opens}
+use Rattle.um_decktext.specs.Places.{is_open, column_of, last_column}
+use Rattle.um_decktext.specs.LinesSay.{data_line, column_line}
 use Rattle.um_make.specs.NormalLines.{Number, number_words, numbers_of, or_one, cost_numbers, entry_number, marker_words, marked, column_data, columns_data, columns_lines, rows_data}
 use Rattle.um_round.proofs.EachItem.{Each, Each-from}
 use Rattle.um_round.proofs.NormalTold.{entry_told, numbers_told, column_told_as, column_told, columns_told}

@@ -6,13 +6,13 @@ use Rattle.std.proofs.lemmas.List.Elements.{filter_map-append}
 use Rattle.std.proofs.lemmas.List.Folds.{list_any-append}
 use Rattle.um_model.specs.Values.{DeckValue}
 use Rattle.um_statements.specs.Statements.{Name}
-use Rattle.um_mps.specs.declared.section.Section.{Section}
-use Rattle.um_mps.specs.declared.section.Section.TheVariants as section
-use Rattle.um_mps.specs.Sections.{section_called, rank, is_section}
-use Rattle.um_setsec.specs.Words.{Words}
-use Rattle.um_mps.specs.DeckLines.{Line, Heading, section_now, data_now, heading_of, data_words, is_heading}
-use Rattle.um_mps.specs.LinesSay.{line_says}
-use Rattle.um_mps.specs.Places.{place_of, is_open}
+use Rattle.um_decktext.specs.declared.section.Section.{Section}
+use Rattle.um_decktext.specs.declared.section.Section.TheVariants as section
+use Rattle.um_decktext.specs.Sections.{section_called, rank, is_section}
+use Rattle.um_decktext.specs.Words.{Words}
+use Rattle.um_decktext.specs.DeckLines.{Line, Heading, section_now, data_now, heading_of, data_words, is_heading}
+use Rattle.um_decktext.specs.LinesSay.{line_says}
+use Rattle.um_decktext.specs.Places.{place_of, is_open}
 use Rattle.um_make.specs.NormalLines.{rows_data}
 use Rattle.um_round.proofs.LinesTold.{IsBehind, place_is, last_push, after_this, or_more}
 

@@ -7,8 +7,8 @@ use Rattle.um_text.specs.Lines.{is_line_byte}
 use Rattle.um_text.specs.Texts.{behind_blanks, line_bytes, lines_text}
 use Rattle.um_text.specs.Words.{is_gap, is_word, is_word_byte, has_bytes}
 use Rattle.um_text.proofs.WrittenLines.{lines_back, line_words as line_back, rest_words}
-use Rattle.um_setsec.specs.Words.{Words}
-use Rattle.um_mps.specs.DeckLines.{Line, Skipped, Heading, Data, line_of, deck_lines}
+use Rattle.um_decktext.specs.Words.{Words}
+use Rattle.um_decktext.specs.DeckLines.{Line, Skipped, Heading, Data, line_of, deck_lines}
 use Rattle.um_make.specs.NormalLines.{line_words}
 
 -- a line that is read as the words of which it was made

@@ -8,17 +8,17 @@ use Rattle.std.proofs.lemmas.List.Elements.{filter_map-append}
 use Rattle.std.proofs.lemmas.List.Folds.{list_any-append}
 use Rattle.um_statements.specs.Statements.{Statement}
 use Rattle.um_statements.proofs.Grouped.{quiet}
-use Rattle.um_mps.specs.declared.section.Section.{Section}
-use Rattle.um_mps.specs.declared.section.Section.TheVariants as section
-use Rattle.um_mps.specs.Sections.{is_section}
-use Rattle.um_setsec.specs.Words.{Words}
-use Rattle.um_setsec.specs.SetLines.{weights_told}
-use Rattle.um_mps.specs.DeckLines.{Line, Data, section_now, data_now, heading_of, data_words, is_heading, has_section}
+use Rattle.um_decktext.specs.declared.section.Section.{Section}
+use Rattle.um_decktext.specs.declared.section.Section.TheVariants as section
+use Rattle.um_decktext.specs.Sections.{is_section}
+use Rattle.um_decktext.specs.Words.{Words}
+use Rattle.um_decktext.specs.SetLines.{weights_told}
+use Rattle.um_decktext.specs.DeckLines.{Line, Data, section_now, data_now, heading_of, data_words, is_heading, has_section}
 use Rattle.um_statements.specs.Tells.{Says}
-use Rattle.um_mps.specs.LineWords.{is_objective_line}
-use Rattle.um_mps.specs.LinesSay.{line_says, data_line}
-use Rattle.um_mps.specs.Places.{Place, place_of, is_open, last_column, first_line, set_in}
-use Rattle.um_mps.specs.DeckText.{each_from}
+use Rattle.um_decktext.specs.LineWords.{is_objective_line}
+use Rattle.um_decktext.specs.LinesSay.{line_says, data_line}
+use Rattle.um_decktext.specs.Places.{Place, place_of, is_open, last_column, first_line, set_in}
+use Rattle.um_decktext.specs.DeckText.{each_from}
 
 abbrev pub oks : List (List Statement) → List Says
 oks = map (λ told. Ok told)

@@ -16,7 +16,7 @@ use Rattle.um_laws.proofs.WholeRing.{neg_mul}
 use Rattle.um_text.proofs.Places.{places-append}
 use Rattle.um_text.proofs.NormalForm.{normal_is, abs-signed}
 use Rattle.um_statements.specs.Scaled.{at_least_zero, times_ten, decimals}
-use Rattle.um_setsec.specs.Numbers.{number}
+use Rattle.um_decktext.specs.Numbers.{number}
 use Rattle.um_make.specs.Numerals.{last_digits, size_numeral, numeral}
 use Rattle.um_round.specs.Numerals.{written}
 

@@ -5,12 +5,12 @@ use Rattle.um_model.specs.declared.deck.Row.{Row}
 use Rattle.um_statements.specs.declared.parts.RowKind.{RowKind}
 use Rattle.um_statements.specs.declared.parts.RowKind.TheVariants.{N, L, G, E}
 use Rattle.um_statements.specs.Statements.{Name, Statement, Title, Row as RowTold}
-use Rattle.um_mps.specs.declared.section.Section.TheVariants as section
-use Rattle.um_setsec.specs.Words.{Words}
-use Rattle.um_mps.specs.DeckLines.{Line, Heading, Data, section_now, data_now}
+use Rattle.um_decktext.specs.declared.section.Section.TheVariants as section
+use Rattle.um_decktext.specs.Words.{Words}
+use Rattle.um_decktext.specs.DeckLines.{Line, Heading, Data, section_now, data_now}
 use Rattle.um_statements.specs.Tells.{Says}
-use Rattle.um_mps.specs.Places.{place_of}
-use Rattle.um_mps.specs.LinesSay.{line_says, row_line}
+use Rattle.um_decktext.specs.Places.{place_of}
+use Rattle.um_decktext.specs.LinesSay.{line_says, row_line}
 use Rattle.um_make.specs.NormalLines.{title_words, sense_lines, sides_kind, kind_word, row_words, rows_data, front_lines}
 use Rattle.um_round.proofs.NormalTold.{sense_told, row_told, rows_told, front_told}
 use Rattle.um_round.proofs.LinesTold.{oks, said_by, said_in, each_append, oks-append, IsBehind, data_said, behind_all}

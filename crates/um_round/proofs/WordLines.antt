@@ -22,8 +22,8 @@ use Rattle.um_statements.specs.declared.parts.RowKind.TheVariants.{N, L, G, E}
 use Rattle.um_statements.specs.declared.parts.BoundKind.{BoundKind}
 use Rattle.um_statements.specs.declared.parts.BoundKind.TheVariants.{Up, Lo, Fx, Fr, Mi, Pl, Bv, Li, Ui, Sc}
 use Rattle.um_statements.specs.Statements.{Name}
-use Rattle.um_setsec.specs.Words.{Words}
-use Rattle.um_mps.specs.DeckLines.{Line, Heading, Data, deck_lines}
+use Rattle.um_decktext.specs.Words.{Words}
+use Rattle.um_decktext.specs.DeckLines.{Line, Heading, Data, deck_lines}
 use Rattle.um_make.specs.NormalLines.{in_sense, is_zero_number, section_of, title_words, sense_lines, sides_kind, kind_word, row_words, rows_data, row_name, scale_of_row, Number, number_words, cost_numbers, entry_number, or_one, numbers_of, marker_words, marked, column_data, columns_data, first_side, side_numbers, constant_numbers, sides_of, sides_data, width, range_numbers, ranges_of, ranges_data, bound_name, BoundPart, bound_line_of, bound_words, ends_bounds, kind_bounds, column_bounds, bounds_data, set_word, column_name, member_words, set_data, sets_data, arc_number, arc_line_of, arc_words, arcs_data, front_lines, columns_lines, back_lines, normal_lines, normal_text}
 use Rattle.um_make.specs.Numerals.{numeral}
 use Rattle.um_round.specs.Sayable.{is_marker_word, HasWordNames}

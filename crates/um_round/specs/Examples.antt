@@ -4,7 +4,7 @@ use Rattle.std.specs.List.{flat_map}
 use Rattle.um_model.specs.Values.{DeckValue}
 use Rattle.um_model.specs.declared.deck.Kind.TheVariants.{Continuous, Integer, Semi}
 use Rattle.um_model.specs.declared.deck.SetKind.TheVariants.{S2}
-use Rattle.um_mps.specs.DeckText.{DeckText}
+use Rattle.um_decktext.specs.DeckText.{DeckText}
 use Rattle.um_make.specs.Numerals.{numeral}
 use Rattle.um_make.specs.NormalLines.{normal_text}
 

@@ -6,11 +6,11 @@ use Rattle.um_model.specs.Values.{DeckValue}
 use Rattle.um_model.specs.WellFormed.{IsDeck}
 use Rattle.um_statements.specs.Laws.{IsDeckOfObjective}
 use Rattle.um_statements.specs.Scaled.{times_ten, decimals}
-use Rattle.um_setsec.specs.Numbers.{number}
+use Rattle.um_decktext.specs.Numbers.{number}
 use Rattle.um_make.specs.Numerals.{numeral}
 use Rattle.um_make.specs.NormalLines.{normal_lines, normal_text}
-use Rattle.um_mps.specs.DeckLines.{deck_lines}
-use Rattle.um_mps.specs.DeckText.{DeckText}
+use Rattle.um_decktext.specs.DeckLines.{deck_lines}
+use Rattle.um_decktext.specs.DeckText.{DeckText}
 use Rattle.um_round.specs.Numerals.{written}
 use Rattle.um_round.specs.Sayable.{HasWordNames}
 

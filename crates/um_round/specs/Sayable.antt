@@ -6,7 +6,7 @@ use Rattle.um_text.specs.Words.{is_word_byte, is_word}
 use Rattle.um_model.specs.Values.{DeckValue, ColumnValue, SetValue}
 use Rattle.um_model.specs.declared.deck.Row.{Row}
 use Rattle.um_model.specs.declared.deck.Member.{Member}
-use Rattle.um_setsec.specs.SetLines.{set_kind}
+use Rattle.um_decktext.specs.SetLines.{set_kind}
 use Rattle.um_make.specs.NormalLines.{column_name}
 
 -- the word by which a line of COLUMNS is a marker

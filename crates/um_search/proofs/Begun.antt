@@ -31,7 +31,7 @@ use Rattle.um_turns.proofs.Turning.{history_begins}
 use Rattle.um_turns.proofs.Waiting.{root_handed}
 use Rattle.um_loop.specs.Goings.{IsGoing}
 use Rattle.um_loop.specs.Checkables.{AreCheckable}
-use Rattle.um_loop.specs.UnnumberedNodes.{AreUnnumbered}
+use Rattle.um_turns.specs.UnnumberedNodes.{AreUnnumbered}
 use Rattle.um_loop.proofs.Rising.{none_rises}
 
 abbrev pub one : MultipliersValue

@@ -28,7 +28,7 @@ use Rattle.um_tree.specs.Growths.{GrowthValue, what_at}
 use Rattle.um_cover.specs.Nodes.{NodeIs, NodesAre, bounds_by}
 use Rattle.um_cover.specs.Sites.{box_at}
 use Rattle.um_progress.specs.declared.incumbent.Incumbent.{Incumbent}
-use Rattle.um_progress.specs.Searches.{objective_of}
+use Rattle.um_progress.specs.Incumbents.{objective_of}
 use Rattle.um_progress.specs.Stops.{bound_of}
 use Rattle.um_search.specs.Told.{IsOneAndNone, HaveOneAndNone}
 

@@ -24,16 +24,16 @@ use Rattle.um_nodes.specs.declared.open_nodes.OpenNode.{OpenNode}
 use Rattle.um_progress.specs.declared.incumbent.Incumbent.{Incumbent}
 use Rattle.um_progress.specs.Waits.{id_of}
 use Rattle.um_progress.specs.Numbers.{IsNumbered}
-use Rattle.um_progress.specs.Ends.{point_of, stopped}
-use Rattle.um_progress.specs.Searches.{objective_of, IsIncumbent, IsBounded, IsClosedAt, IsSearch}
+use Rattle.um_progress.specs.Ends.{stopped}
+use Rattle.um_progress.specs.Incumbents.{point_of, objective_of}
+use Rattle.um_progress.specs.Searches.{IsIncumbent, IsBounded, IsClosedAt, IsSearch}
 use Rattle.um_progress.specs.Stops.{bound_of, IsBoundOfOne, IsStopping}
 use Rattle.um_progress.proofs.Settling.{optimal_accepted, infeasible_accepted, stopped_accepted}
-use Rattle.um_turns.specs.Turns.{Turn}
+use Rattle.um_turns.specs.Turns.{Turn, IsNoGrid}
 use Rattle.um_turns.specs.Histories.{History, IsHistory, AreFinished, ray_of}
 use Rattle.um_loop.proofs.Settled.{some_kept}
 use Rattle.um_search.specs.declared.budget.Budget.{Budget}
 use Rattle.um_loop.specs.declared.search.Search.{Search}
-use Rattle.um_loop.specs.Goings.{IsNoGrid}
 use Rattle.um_search.specs.Told.{IsHaltedLast, IsEndedBy, HasSpentNodes, HasSpentPivots, OpenLeavesAreHanded, HaveOneAndNone, TellsSearch, TellsOf, TellsAnswer}
 use Rattle.um_loop.specs.Checkables.{AreCheckable}
 use Rattle.um_search.specs.Emptying.{IsOver, IsFound, kind_of_over, AreHandedBut, HasHand, IsEmptying}

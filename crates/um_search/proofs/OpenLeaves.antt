@@ -17,7 +17,7 @@ use Rattle.um_nodes.specs.declared.open_nodes.OpenNode.{OpenNode}
 use Rattle.um_progress.specs.declared.incumbent.Incumbent.{Incumbent}
 use Rattle.um_progress.specs.Waits.{WaitsIn, id_of}
 use Rattle.um_progress.specs.Numbers.{Number}
-use Rattle.um_progress.specs.Searches.{objective_of}
+use Rattle.um_progress.specs.Incumbents.{objective_of}
 use Rattle.um_progress.specs.Stops.{Counts, IsStopping}
 use Rattle.um_progress.proofs.Acts.{open_leaf}
 use Rattle.um_progress.proofs.Draining.{every_last}
@@ -32,7 +32,7 @@ use Rattle.um_search.specs.declared.budget.Budget.{Budget}
 use Rattle.um_loop.specs.declared.search.Search.{Search}
 use Rattle.um_loop.specs.declared.search.Halt.{Halt}
 use Rattle.um_loop.specs.Goings.{HasSpent, HaltedAt}
-use Rattle.um_loop.specs.NeededTurns.{IsNeeded}
+use Rattle.um_turns.specs.NeededTurns.{IsNeeded}
 use Rattle.um_search.specs.Told.{IsHaltedLast, IsEndedBy}
 use Rattle.um_loop.specs.Checkables.{AreCheckable}
 use Rattle.um_search.specs.Emptying.{AreRising, AreHandedBut, HasHand, IsHalted, IsEmptying}

@@ -32,7 +32,7 @@ use Rattle.um_cover.specs.Nodes.{NodesAre, bounds_by}
 use Rattle.um_cover.specs.Sites.{box_at}
 use Rattle.um_progress.specs.declared.incumbent.Incumbent.{Incumbent}
 use Rattle.um_progress.specs.Waits.{Every}
-use Rattle.um_progress.specs.Searches.{objective_of}
+use Rattle.um_progress.specs.Incumbents.{objective_of}
 use Rattle.um_progress.specs.Numbers.{Number, IsNumbered}
 use Rattle.um_turns.specs.Turns.{Turn, TurnEnd, Reached, Emptied, Halted, RunStopped, EndHolds, Became, IsFinished, kept_multipliers}
 use Rattle.um_turns.specs.Histories.{History, IsHistory, IsHanded, AreChained, AreFinished, ray_of}

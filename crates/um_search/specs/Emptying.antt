@@ -16,7 +16,7 @@ use Rattle.um_nodes.specs.declared.open_nodes.OpenNode.{OpenNode}
 use Rattle.um_progress.specs.declared.incumbent.Incumbent.{Incumbent}
 use Rattle.um_progress.specs.Waits.{Every, IsFresh, id_of}
 use Rattle.um_progress.specs.Stops.{IsStopping}
-use Rattle.um_progress.specs.Searches.{objective_of}
+use Rattle.um_progress.specs.Incumbents.{objective_of}
 use Rattle.um_progress.specs.Lineage.{IsLineage}
 use Rattle.um_turns.specs.Turns.{Turn}
 use Rattle.um_turns.specs.Histories.{History, IsHistory, AreHanded, IsBest, ray_of}
@@ -25,8 +25,8 @@ use Rattle.um_loop.specs.declared.search.Search.{Search}
 use Rattle.um_loop.specs.declared.search.Halt.{Halt}
 use Rattle.um_loop.specs.Checkables.{AreCheckable}
 use Rattle.um_loop.specs.Goings.{RanOut, HasStopped, HasFound}
-use Rattle.um_loop.specs.UnnumberedNodes.{AreUnnumbered}
-use Rattle.um_loop.specs.NeededTurns.{AreNeeded}
+use Rattle.um_turns.specs.UnnumberedNodes.{AreUnnumbered}
+use Rattle.um_turns.specs.NeededTurns.{AreNeeded}
 use Rattle.um_search.specs.Told.{IsEndedBy, IsHandedLeaf, IsOpenStill}
 
 -- the multipliers of each entry are of rows of the deck, in rising order

@@ -21,16 +21,14 @@ use Rattle.um_cover.specs.Sites.{box_at}
 use Rattle.um_progress.specs.declared.incumbent.Incumbent.{Incumbent}
 use Rattle.um_progress.specs.Waits.{IsOpenLeaf, IsFresh}
 use Rattle.um_progress.specs.Numbers.{Number, IsNumbered}
-use Rattle.um_progress.specs.Searches.{objective_of}
+use Rattle.um_progress.specs.Incumbents.{objective_of, point_of}
 use Rattle.um_progress.specs.Lineage.{IsLineage}
-use Rattle.um_progress.specs.Ends.{point_of}
-use Rattle.um_turns.specs.Turns.{Turn, Reached, Halted}
+use Rattle.um_turns.specs.Turns.{Turn, Reached, Halted, IsNoGrid}
 use Rattle.um_turns.specs.Histories.{History, IsHanded, IsHistory, AreFinished, IsBest, pivots_of, ray_of}
 use Rattle.um_turns.specs.NextTurns.{IsNextTurn}
-use Rattle.um_turns.specs.Laws.{HasShown}
-use Rattle.um_loop.specs.Goings.{IsNoGrid}
-use Rattle.um_loop.specs.UnnumberedNodes.{AreUnnumbered}
-use Rattle.um_loop.specs.NeededTurns.{AreNeeded}
+use Rattle.um_turns.specs.ShownRays.{HasShown}
+use Rattle.um_turns.specs.UnnumberedNodes.{AreUnnumbered}
+use Rattle.um_turns.specs.NeededTurns.{AreNeeded}
 use Rattle.um_search.specs.declared.budget.Budget.{Budget}
 
 -- ---- how the search ended

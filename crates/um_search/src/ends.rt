@@ -15,13 +15,13 @@ ghost use Rattle.um_lp.specs.Boards.{IsBoard, IsStart};
 ghost use Rattle.um_duality.specs.Relaxed.{deck_frame};
 ghost use Rattle.um_tree.specs.Growths.{settled};
 ghost use Rattle.um_cover.specs.Sites.{box_at};
-ghost use Rattle.um_progress.specs.Ends.{point_of};
-ghost use Rattle.um_progress.specs.Searches.{objective_of};
+ghost use Rattle.um_progress.specs.Incumbents.{point_of, objective_of};
 ghost use Rattle.um_progress.specs.Stops.{Counts, bound_of as bound_in_all};
 ghost use Rattle.um_progress.specs.Waits.{WaitsIn};
 ghost use Rattle.um_loop.specs.Checkables.{AreCheckable};
 ghost use Rattle.um_search.specs.Emptying.{IsOver, IsHalted, IsFound, kind_of_over};
-ghost use Rattle.um_loop.specs.Goings.{IsGoing, IsNoGrid};
+ghost use Rattle.um_loop.specs.Goings.{IsGoing};
+ghost use Rattle.um_turns.specs.Turns.{IsNoGrid};
 ghost use Rattle.um_search.specs.Told.{TellsAnswer};
 
 use crate::budget::Budget;

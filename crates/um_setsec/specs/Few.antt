@@ -1,6 +1,6 @@
 -- Lines of few words.
 use Rattle.std.specs.Prelude.{◌≡◌, ◌⊎◌, ◌<◌, [], ◌∷◌, length}
-use Rattle.um_setsec.specs.Words.{Words}
+use Rattle.um_decktext.specs.Words.{Words}
 use Rattle.um_setsec.specs.declared.few.Few.{Few}
 use Rattle.um_setsec.specs.declared.few.Few.TheVariants.{One, Two, Three, Four, Five, Other}
 

@@ -1,4 +1,1 @@
-pub mod Words
 pub mod Few
-pub mod Numbers
-pub mod SetLines

@@ -1,7 +1,7 @@
 //! Lines of quadratic arcs.
 
 ghost use Rattle.um_statements.specs.Tells.{TellsLine};
-ghost use Rattle.um_setsec.specs.SetLines.{arc_says};
+ghost use Rattle.um_decktext.specs.SetLines.{arc_says};
 
 use crate::few::{Few, few_of};
 use crate::numerals::number;

@@ -2,7 +2,7 @@
 
 ghost use Rattle.std.specs.Prelude.{◌≡◌, IfOk};
 ghost use Rattle.um_statements.specs.WellSaid.{IsNumber};
-ghost use Rattle.um_setsec.specs.Numbers.{number as number_of};
+ghost use Rattle.um_decktext.specs.Numbers.{number as number_of};
 
 use um_maker::Fault;
 use um_num::Decimal;

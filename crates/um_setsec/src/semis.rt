@@ -1,6 +1,6 @@
 //! Bounds of semicontinuous columns.
 
-ghost use Rattle.um_setsec.specs.SetLines.{semi_says, TellsLineFree};
+ghost use Rattle.um_decktext.specs.SetLines.{semi_says, TellsLineFree};
 
 use crate::few::{Few, few_of};
 use crate::numerals::number;

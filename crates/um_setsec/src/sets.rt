@@ -2,7 +2,7 @@
 
 ghost use Rattle.std.specs.Prelude.{◌≡◌};
 ghost use Rattle.um_statements.specs.Tells.{TellsLine, wants_weight};
-ghost use Rattle.um_setsec.specs.SetLines.{member_line, set_head, set_kind, set_says};
+ghost use Rattle.um_decktext.specs.SetLines.{member_line, set_head, set_kind, set_says};
 
 use crate::few::{Few, few_of, word};
 use crate::numerals::number;

@@ -10,7 +10,7 @@ use Rattle.um_model.specs.Objective.{objective}
 use Rattle.um_model.specs.Accepted.{IsAtMost}
 use Rattle.um_progress.specs.declared.incumbent.Incumbent.{Incumbent}
 use Rattle.um_progress.specs.Numbers.{Number}
-use Rattle.um_progress.specs.Searches.{objective_of}
+use Rattle.um_progress.specs.Incumbents.{objective_of}
 use Rattle.um_progress.proofs.Changes.{at_most_trans}
 use Rattle.um_turns.specs.Turns.{Turn, TurnEnd, Reached}
 use Rattle.um_turns.specs.Histories.{History, HasVertex, IsBest}

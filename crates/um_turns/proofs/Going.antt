@@ -19,7 +19,8 @@ use Rattle.um_cover.specs.Sites.{box_at}
 use Rattle.um_progress.specs.Numbers.{Number, IsNumbered}
 use Rattle.um_turns.specs.Turns.{Turn, TurnEnd, Reached, Emptied, Halted, EndHolds, IsFinished}
 use Rattle.um_turns.specs.Histories.{History, IsHistory, AreChained, AreFinished, state_behind, ray_of}
-use Rattle.um_turns.specs.Laws.{GoingOnLaw, GoingCostsLaw, HasShown, ShownLaw}
+use Rattle.um_turns.specs.Laws.{GoingOnLaw, GoingCostsLaw, ShownLaw}
+use Rattle.um_turns.specs.ShownRays.{HasShown}
 use Rattle.um_turns.proofs.Lists.{every_at}
 use Rattle.um_turns.proofs.TreeWithin.{box_within}
 

@@ -1,5 +1,5 @@
 -- What each act of a search keeps of its history.
-use Rattle.std.specs.Prelude.{◌≡◌, ◌≢◌, ℕ, suc, ◌+◌, ◌-◌, ◌<◌, ◌≤◌, ℤ, pos, Bool, List, [], ◌∷◌, ◌++◌, length, Option, Some, None, IfSome}
+use Rattle.std.specs.Prelude.{◌≡◌, ◌≢◌, ℕ, suc, ◌+◌, ◌-◌, ◌<◌, ℤ, pos, Bool, List, [], ◌∷◌, ◌++◌, length, Option, Some, None, IfSome}
 use Rattle.um_laws.specs.Rational.{Rational}
 use Rattle.um_num.specs.Fractions.{IsBelow}
 use Rattle.um_multipliers.specs.PlainMultipliers.{MultipliersValue, plain_multipliers}
@@ -20,7 +20,6 @@ use Rattle.um_lp.specs.declared.board.Costs.TheVariants.{Given}
 use Rattle.um_duality.specs.Laws.{HoldsOnBox}
 use Rattle.um_duality.specs.Relaxed.{deck_frame}
 use Rattle.um_solving.specs.Laws.{VertexSays}
-use Rattle.um_opening.specs.Openings.{ShowsRay}
 use Rattle.um_opening.specs.Numbers.{MayGoOn}
 use Rattle.um_solving.specs.RootBoxes.{IsWithinRoot}
 use Rattle.um_split.specs.Branchings.{IsBranchOf, AsksForNone}
@@ -33,11 +32,13 @@ use Rattle.um_nodes.specs.Taking.{IsTaken}
 use Rattle.um_nodes.specs.declared.open_nodes.OpenNode.{OpenNode}
 use Rattle.um_progress.specs.declared.incumbent.Incumbent.{Incumbent}
 use Rattle.um_progress.specs.Numbers.{Number, IsNumbered}
-use Rattle.um_progress.specs.Searches.{IsSearch, ChildIs, objective_of}
+use Rattle.um_progress.specs.Searches.{IsSearch, ChildIs}
+use Rattle.um_progress.specs.Incumbents.{objective_of}
 use Rattle.um_progress.specs.Stops.{IsStopping}
 use Rattle.um_progress.specs.Ends.{rooted}
 use Rattle.um_turns.specs.Turns.{Turn, Reached, Became, IsFinished}
 use Rattle.um_turns.specs.Histories.{History, IsHistory, IsHanded, AreHanded, AreFinished, IsBest, AreChained, state_behind, left_behind, pivots_of, ray_of}
+use Rattle.um_turns.specs.ShownRays.{HasShown}
 use Rattle.um_turns.specs.NextTurns.{IsNextTurn, AreUnder, IsNoBetter}
 
 -- ---- the acts
@@ -124,12 +125,6 @@ abbrev pub GoingCostsLaw : Type 0
 GoingCostsLaw =
     (d : DeckValue) (start : State) (most : ℕ) (g : GrowthValue) (history : History) → IsDeck d → d.arcs ≡ [] → IsGrowth g → SplitsFit d g → IsNumbered Turn g history → IsHistory d start most g history → AreFinished history
     → ray_of history ≡ None → history ≢ [] → (state_behind start history).costs ≡ Given
-
--- the start problem on the board that starts has shown this ray, within so many pivots
-pub record HasShown (d : DeckValue) (start : State) (most : ℕ) (ray : List ℤ) : Type 0 where
-  pub pivots : ℕ
-  pub within : pivots ≤ most
-  pub shows : ShowsRay d start pivots ray
 
 -- The ray of a history with finished turns was shown by the start problem on the board that starts.
 abbrev pub ShownLaw : Type 0

@@ -12,7 +12,7 @@ use Rattle.um_nodes.specs.declared.open_nodes.OpenNode.{OpenNode}
 use Rattle.um_progress.specs.declared.incumbent.Incumbent.{Incumbent}
 use Rattle.um_progress.specs.Waits.{Every}
 use Rattle.um_progress.specs.Numbers.{Number}
-use Rattle.um_progress.specs.Searches.{objective_of}
+use Rattle.um_progress.specs.Incumbents.{objective_of}
 use Rattle.um_turns.specs.Turns.{Turn, TurnEnd, Reached, Emptied, Halted, EndHolds}
 use Rattle.um_turns.specs.Histories.{History, IsHanded, state_behind, left_behind}
 

@@ -80,3 +80,8 @@ abbrev pub IsFinished : TurnEnd → Type 0
 IsFinished (Reached p y) = Unit {0}
 IsFinished (Emptied y) = Unit {0}
 IsFinished (Halted cause own) = ⊥
+
+-- the cause is no limit of the grid
+abbrev pub IsNoGrid : Why → Type 0
+IsNoGrid (why.Grid number) = ⊥
+IsNoGrid other = Unit {0}

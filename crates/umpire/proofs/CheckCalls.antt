@@ -7,7 +7,9 @@ use Rattle.um_model.specs.Values.{DeckValue}
 use Rattle.um_model.specs.AnswerValues.{AnswerValue}
 use Rattle.um_model.specs.declared.verdict.Verdict.{Verdict}
 use Rattle.umpire.specs.CheckRuns.{CheckNames, CheckRan, CheckDue, CheckFails, check_files, CheckKeeps, HasJudged, CheckStopped}
-use Rattle.umpire.specs.Findings.{HasDeck, HasTree, IsFinding}
+use Rattle.umpire.specs.DeckFiles.{HasDeck}
+use Rattle.umpire.specs.TreeFiles.{HasTree}
+use Rattle.umpire.specs.Findings.{IsFinding}
 use Rattle.umpire.specs.Refusals.{refusal_text}
 use Rattle.um_report.specs.Verdicts.{verdict_text}
 use Rattle.umpire.specs.Stops.{FileStopped, RefusesDeck, RefusesTree, SaidOrNot, GaveUp}

@@ -6,7 +6,8 @@ use Rattle.um_model.specs.Values.{DeckValue}
 use Rattle.um_model.specs.AnswerValues.{AnswerValue}
 use Rattle.um_mps.specs.declared.reader.ReadFault.{ReadFault}
 use Rattle.um_treetext.specs.declared.fault.TreeFault.{TreeFault}
-use Rattle.umpire.specs.Findings.{HasDeck, HasDeckOf, HasTree, HasNoDeck, HasNoDeckOf, HasNoTree}
+use Rattle.umpire.specs.DeckFiles.{HasDeck, HasDeckOf, HasNoDeck, HasNoDeckOf}
+use Rattle.umpire.specs.TreeFiles.{HasTree, HasNoTree}
 
 whole_left : (name bytes : List ℕ) (s t : Scene) → ReadWhole name bytes s t → ReadGivenUp name s t
 whole_left name bytes s t h = record { well = h.well; put = h.put; holds = h.holds; asked = h.asked }

@@ -1,11 +1,11 @@
 -- What a call of `print` does, from what became of its file and of its text.
-use Rattle.std.proofs.Common.{◌≡◌, ℕ, List, [], ◌∷◌, refl, sym, subst, inl, inr}
+use Rattle.std.proofs.Common.{◌≡◌, ℕ, List, [], ◌∷◌, refl, sym, subst, inl}
 use Rattle.um_outside.specs.Scenes.{Scene, to_open}
 use Rattle.um_outside.specs.Sinks.{SinkScene}
 use Rattle.um_outside.specs.WholeFiles.{ReadFaulted, ReadGivenUp}
 use Rattle.um_model.specs.Values.{DeckValue}
 use Rattle.um_make.specs.NormalLines.{normal_text}
-use Rattle.umpire.specs.Findings.{HasDeck}
+use Rattle.umpire.specs.DeckFiles.{HasDeck}
 use Rattle.umpire.specs.PrintRuns.{PrintRan, PrintDue, PrintKeeps, HasPrinted, PrintStopped}
 use Rattle.umpire.specs.Refusals.{refusal_text}
 use Rattle.umpire.specs.Stops.{FileStopped, RefusesDeck, SaidOrCut, GaveUp}

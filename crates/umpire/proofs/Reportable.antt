@@ -11,7 +11,7 @@ use Rattle.um_model.specs.declared.answer.AnswerKind.TheVariants.{Optimal, Infea
 use Rattle.um_report.specs.Reports.{IsReportable, IsReportablePoint}
 use Rattle.um_search.specs.Told.{TellsOf}
 use Rattle.um_search.specs.declared.budget.Budget.{Budget}
-use Rattle.umpire.specs.Findings.{Answers}
+use Rattle.umpire.specs.Solutions.{Answers}
 
 -- the numbers of an accepted answer are small
 accepted_small : (d : DeckValue) (a : AnswerValue) → IsVerdict d a Yes → NumbersSmall a

@@ -13,7 +13,7 @@ use Rattle.um_search.specs.declared.budget.Budget.{Budget}
 use Rattle.umpire.specs.SolveWords.{SolveLine, budget_said}
 use Rattle.umpire.specs.SolveRuns.{SolveRan, SearchRan, ValueDue, by_budget, SolveDue, SolveFails, MakesTree, tree_file, SolveKeeps, SolveFaulted, HasSolved, SolveStopped}
 use Rattle.um_search.specs.Conditions.{IsSearched}
-use Rattle.umpire.specs.Findings.{HasSearchedDeck, Answers}
+use Rattle.umpire.specs.Solutions.{HasSearchedDeck, Answers}
 use Rattle.umpire.specs.Refusals.{refusal_text}
 use Rattle.um_report.specs.Reports.{report_text}
 use Rattle.um_treetext.specs.TreeText.{tree_text}

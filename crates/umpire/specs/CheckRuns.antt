@@ -9,7 +9,9 @@ use Rattle.um_model.specs.AnswerValues.{AnswerValue}
 use Rattle.um_model.specs.declared.verdict.Verdict.{Verdict}
 use Rattle.umpire.specs.Calls.{ComesTo, MakesNoFile, AsksInOrder}
 use Rattle.um_treetext.specs.declared.fault.TreeFault.{TreeFault}
-use Rattle.umpire.specs.Findings.{HasDeck, HasTree, HasNoDeck, HasNoTree, IsFinding}
+use Rattle.umpire.specs.DeckFiles.{HasDeck, HasNoDeck}
+use Rattle.umpire.specs.TreeFiles.{HasTree, HasNoTree}
+use Rattle.umpire.specs.Findings.{IsFinding}
 use Rattle.umpire.specs.Refusals.{refusal_text}
 use Rattle.um_report.specs.Verdicts.{verdict_text}
 use Rattle.umpire.specs.Words.{is_plain}

@@ -7,5 +7,8 @@ pub mod SolveWords
 pub mod SolveRuns
 pub mod PrintRuns
 pub mod Stops
+pub mod DeckFiles
+pub mod TreeFiles
 pub mod Findings
+pub mod Solutions
 pub mod Runs

@@ -7,7 +7,7 @@ use Rattle.um_outside.specs.WholeFiles.{ReadFaulted}
 use Rattle.um_model.specs.Values.{DeckValue}
 use Rattle.um_make.specs.NormalLines.{normal_text}
 use Rattle.umpire.specs.Calls.{ComesTo, MakesNoFile, AsksInOrder}
-use Rattle.umpire.specs.Findings.{HasDeck, HasNoDeck}
+use Rattle.umpire.specs.DeckFiles.{HasDeck, HasNoDeck}
 use Rattle.umpire.specs.Refusals.{refusal_text}
 use Rattle.umpire.specs.Words.{is_plain}
 use Rattle.umpire.specs.declared.ending.Ending.{Ending}

@@ -10,7 +10,8 @@ use Rattle.um_model.specs.declared.answer.Answer.{Answer}
 use Rattle.um_search.specs.Conditions.{IsSearched}
 use Rattle.um_search.specs.declared.budget.Budget.{Budget}
 use Rattle.umpire.specs.Calls.{CallPromise, ComesTo, MakesNoFile, AsksInOrder}
-use Rattle.umpire.specs.Findings.{HasSearchedDeck, HasNoDeckOf, Answers}
+use Rattle.umpire.specs.DeckFiles.{HasNoDeckOf}
+use Rattle.umpire.specs.Solutions.{HasSearchedDeck, Answers}
 use Rattle.umpire.specs.Refusals.{refusal_text}
 use Rattle.um_report.specs.Reports.{report_text}
 use Rattle.um_treetext.specs.TreeText.{tree_text}

@@ -6,11 +6,12 @@ use Rattle.um_outside.specs.WholeFiles.{ReadFaulted, ReadGivenUp}
 use Rattle.um_model.specs.Values.{DeckValue}
 use Rattle.um_statements.specs.declared.fault.Fault.TheVariants as deck
 use Rattle.um_mps.specs.declared.reader.ReadFault.{ReadFault}
-use Rattle.um_mps.specs.DeckText.{DeckFault}
+use Rattle.um_decktext.specs.DeckText.{DeckFault}
 use Rattle.um_treetext.specs.declared.fault.TreeFault.{TreeFault}
 use Rattle.um_treetext.specs.declared.fault.TreeWord.TheVariants as tree
 use Rattle.um_treetext.specs.Reading.{TreeFaultAt}
-use Rattle.umpire.specs.Findings.{HasNoDeck, HasNoDeckOf, HasNoTree}
+use Rattle.umpire.specs.DeckFiles.{HasNoDeck, HasNoDeckOf}
+use Rattle.umpire.specs.TreeFiles.{HasNoTree}
 use Rattle.umpire.specs.Refusals.{refusal_text}
 use Rattle.umpire.specs.declared.ending.Ending.{Ending}
 use Rattle.umpire.specs.declared.ending.Ending.TheVariants.{Refused, Faulted, WithoutMemory}

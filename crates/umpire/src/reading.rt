@@ -3,10 +3,12 @@
 ghost use Rattle.std.specs.Prelude.{◌≡◌, false, IfOk, IfErr};
 ghost use Rattle.um_model.specs.AnswerValues.{plain_answer};
 ghost use Rattle.um_model.specs.Checkable.{IsCheckable};
-ghost use Rattle.um_mps.specs.DeckText.{DeckText};
+ghost use Rattle.um_decktext.specs.DeckText.{DeckText};
 ghost use Rattle.um_search.specs.Conditions.{IsSearched};
 ghost use Rattle.um_treetext.specs.Reading.{TreeText};
-ghost use Rattle.umpire.specs.Findings.{HasDeck, HasSearchedDeck, HasTree};
+ghost use Rattle.umpire.specs.DeckFiles.{HasDeck};
+ghost use Rattle.umpire.specs.TreeFiles.{HasTree};
+ghost use Rattle.umpire.specs.Solutions.{HasSearchedDeck};
 ghost use Rattle.um_outside.specs.Scenes.{Idle};
 ghost use Rattle.umpire.specs.Stops.{FileStopped, RefusesDeck, RefusesDeckOf, RefusesTree, StopsFor, StopsForTree, TextStopped, TreeStopped};
 

@@ -5,7 +5,7 @@ ghost use Rattle.um_model.specs.AnswerValues.{plain_answer};
 ghost use Rattle.um_model.specs.Checkable.{IsCheckable};
 ghost use Rattle.um_outside.specs.Scenes.{Idle};
 ghost use Rattle.um_search.specs.Conditions.{IsBudget, IsSearched};
-ghost use Rattle.umpire.specs.Findings.{Answers};
+ghost use Rattle.umpire.specs.Solutions.{Answers};
 ghost use Rattle.umpire.specs.SolveRuns.{HasSolved, SearchRan, SolveRan, SolveStopped};
 ghost use Rattle.umpire.specs.SolveWords.{solve_of, line_of, options_of, take_option, budget_said, number_asked, in_range_to};
 ghost use Rattle.umpire.specs.Stops.{SaidOrCut};

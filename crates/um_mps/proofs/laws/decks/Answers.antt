@@ -6,10 +6,10 @@ use Rattle.um_statements.specs.Said.{collected}
 use Rattle.um_statements.specs.CallRules.{rules_of, with_statement}
 use Rattle.um_statements.specs.DeckRules.{deck_rules}
 use Rattle.um_statements.specs.Made.{deck_value}
-use Rattle.um_mps.specs.DeckLines.{line_of, deck_lines, section_now, data_now}
-use Rattle.um_mps.specs.Places.{place_of}
-use Rattle.um_mps.specs.LinesSay.{line_says}
-use Rattle.um_mps.specs.DeckText.{told, line_fault, counted, broken, text_fault, text_deck}
+use Rattle.um_decktext.specs.DeckLines.{line_of, deck_lines, section_now, data_now}
+use Rattle.um_decktext.specs.Places.{place_of}
+use Rattle.um_decktext.specs.LinesSay.{line_says}
+use Rattle.um_decktext.specs.DeckText.{told, line_fault, counted, broken, text_fault, text_deck}
 use Rattle.um_mps.proofs.laws.decks.Goals as goal
 
 pub returns : goal.returns

@@ -1,6 +1,6 @@
 use Rattle.std.proofs.Common.{◌≡◌, ◌⊎◌, inl, inr, ℕ, List, Option, Some, None, refl, sym, ap, ◌∙◌}
 use Rattle.um_statements.specs.declared.fault.Fault.{Fault}
-use Rattle.um_mps.specs.DeckText.{text_deck, text_fault}
+use Rattle.um_decktext.specs.DeckText.{text_deck, text_fault}
 use Rattle.um_mps.specs.Laws.{Broken, Read}
 use Rattle.um_mps.proofs.laws.text_law.Goals as goal
 

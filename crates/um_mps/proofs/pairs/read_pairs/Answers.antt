@@ -1,5 +1,5 @@
 use Rattle.std.proofs.Common.{◌≡◌, ◌+◌, ◌∙◌, ap, [], get_or, length, arith}
-use Rattle.um_setsec.specs.Numbers.{number}
+use Rattle.um_decktext.specs.Numbers.{number}
 use Rattle.um_mps.proofs.PairSteps.{second_broken}
 use Rattle.um_mps.proofs.pairs.read_pairs.Goals as goal
 

@@ -1,5 +1,5 @@
 use Rattle.std.proofs.Common.{map}
-use Rattle.um_mps.specs.DeckLines.{deck_lines, line_of}
+use Rattle.um_decktext.specs.DeckLines.{deck_lines, line_of}
 use Rattle.um_mps.specs.Reading.{IsReading}
 use Rattle.um_mps.proofs.reader.read_lines.Given as goal
 

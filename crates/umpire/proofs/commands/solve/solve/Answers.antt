@@ -1,4 +1,3 @@
-use Rattle.std.proofs.Common.{sym}
 use Rattle.umpire.specs.SolveWords.{line_of}
 use Rattle.umpire.proofs.SolveCalls.{asked_ran, value_ran}
 use Rattle.umpire.proofs.commands.solve.solve.Goals as goal

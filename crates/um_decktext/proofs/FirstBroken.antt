@@ -4,9 +4,9 @@ use Rattle.std.specs.List.{list_any}
 use Rattle.std.specs.Option.{option_or}
 use Rattle.um_statements.specs.declared.fault.Fault.{Fault}
 use Rattle.um_statements.specs.declared.fault.Fault.TheVariants.{NoEnd}
-use Rattle.um_mps.specs.DeckLines.{Line}
-use Rattle.um_mps.specs.DeckText.{each_from, line_fault, is_end, counted, broken, broken_line, first_broken}
-use Rattle.um_mps.specs.Reading.{fault_behind}
+use Rattle.um_decktext.specs.DeckLines.{Line}
+use Rattle.um_decktext.specs.DeckText.{each_from, line_fault, is_end, counted, broken, broken_line, first_broken}
+use Rattle.um_decktext.specs.LineByLine.{fault_behind}
 
 abbrev first_behind : List Line → List Line → Option (ℕ × Fault)
 first_behind before lines = option_or (find (λ (a : ℕ × Fault). true) (each_from broken_line before (counted lines))) (if list_any is_end lines then None else Some (length before + length lines, NoEnd))

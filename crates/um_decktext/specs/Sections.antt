@@ -1,9 +1,9 @@
 -- The sections of a deck's text, in the order in which they come.
 use Rattle.std.specs.Prelude.{ℕ, Bool, false, List, [], ◌∷◌, Option, codes, nat_eq}
 use Rattle.std.specs.Option.{option_map_or}
-use Rattle.um_setsec.specs.Words.{named}
-use Rattle.um_mps.specs.declared.section.Section.{Section}
-use Rattle.um_mps.specs.declared.section.Section.TheVariants as section
+use Rattle.um_decktext.specs.Words.{named}
+use Rattle.um_decktext.specs.declared.section.Section.{Section}
+use Rattle.um_decktext.specs.declared.section.Section.TheVariants as section
 
 abbrev pub section_called : List ℕ → Option Section
 section_called = named (

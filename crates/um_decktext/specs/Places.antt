@@ -4,13 +4,13 @@ use Rattle.std.specs.List.{filter_map, list_any, last_or}
 use Rattle.std.specs.Option.{option_and_then, option_map_or, option_eq}
 use Rattle.std.specs.Str.{bytes_eq}
 use Rattle.um_statements.specs.Statements.{Name}
-use Rattle.um_mps.specs.declared.section.Section.{Section}
-use Rattle.um_mps.specs.declared.section.Section.TheVariants as section
-use Rattle.um_mps.specs.Sections.{is_section}
-use Rattle.um_setsec.specs.Words.{Words, first_word}
-use Rattle.um_setsec.specs.SetLines.{weights_told}
-use Rattle.um_mps.specs.DeckLines.{Line, section_now, data_now, has_section}
-use Rattle.um_mps.specs.LineWords.{is_objective_line, is_marker, opens, set_of_pairs, set_of_bound}
+use Rattle.um_decktext.specs.declared.section.Section.{Section}
+use Rattle.um_decktext.specs.declared.section.Section.TheVariants as section
+use Rattle.um_decktext.specs.Sections.{is_section}
+use Rattle.um_decktext.specs.Words.{Words, first_word}
+use Rattle.um_decktext.specs.SetLines.{weights_told}
+use Rattle.um_decktext.specs.DeckLines.{Line, section_now, data_now, has_section}
+use Rattle.um_decktext.specs.LineWords.{is_objective_line, is_marker, opens, set_of_pairs, set_of_bound}
 
 -- the place of a line: what it needs of the lines before it
 pub record Place : Type 0 where

@@ -10,15 +10,15 @@ use Rattle.um_statements.specs.declared.parts.BoundKind.{BoundKind}
 use Rattle.um_statements.specs.Statements.{Name, Statement, Title, Sense, Row, Column, Entry, Side, Range, Bound}
 use Rattle.um_statements.specs.CallRules.{Rule, first_fault}
 use Rattle.um_statements.specs.Tells.{Says}
-use Rattle.um_mps.specs.declared.section.Section.{Section}
-use Rattle.um_mps.specs.declared.section.Section.TheVariants as section
-use Rattle.um_mps.specs.Sections.{section_called, rank, is_section}
-use Rattle.um_setsec.specs.Words.{Words, first_word}
-use Rattle.um_setsec.specs.Numbers.{number}
-use Rattle.um_setsec.specs.SetLines.{set_says, arc_says}
-use Rattle.um_mps.specs.DeckLines.{Line, Skipped, Heading, Data}
-use Rattle.um_mps.specs.LineWords.{row_kind, sense_called, valued_bound, bare_bound, is_marker, third_word, set_of_pairs, set_of_bound}
-use Rattle.um_mps.specs.Places.{Place, is_used}
+use Rattle.um_decktext.specs.declared.section.Section.{Section}
+use Rattle.um_decktext.specs.declared.section.Section.TheVariants as section
+use Rattle.um_decktext.specs.Sections.{section_called, rank, is_section}
+use Rattle.um_decktext.specs.Words.{Words, first_word}
+use Rattle.um_decktext.specs.Numbers.{number}
+use Rattle.um_decktext.specs.SetLines.{set_says, arc_says}
+use Rattle.um_decktext.specs.DeckLines.{Line, Skipped, Heading, Data}
+use Rattle.um_decktext.specs.LineWords.{row_kind, sense_called, valued_bound, bare_bound, is_marker, third_word, set_of_pairs, set_of_bound}
+use Rattle.um_decktext.specs.Places.{Place, is_used}
 
 -- what a word of a known kind leads to
 abbrev pub kinds : {A : Type 0} → Option A → (A → Says) → Says

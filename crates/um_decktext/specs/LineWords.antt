@@ -8,7 +8,7 @@ use Rattle.um_statements.specs.declared.parts.BoundKind.{BoundKind}
 use Rattle.um_statements.specs.declared.parts.BoundKind.TheVariants.{Up, Lo, Fx, Fr, Mi, Pl, Bv, Li, Ui, Sc}
 use Rattle.um_statements.specs.Statements.{Name}
 use Rattle.um_statements.specs.CallRules.{is_n}
-use Rattle.um_setsec.specs.Words.{Words, first_word, named}
+use Rattle.um_decktext.specs.Words.{Words, first_word, named}
 
 -- ---- kinds
 

@@ -12,8 +12,8 @@ use Rattle.um_statements.specs.Statements.{Bound, Set, Member, Arc}
 use Rattle.um_statements.specs.Said.{Said}
 use Rattle.um_statements.specs.CallRules.{with_all}
 use Rattle.um_statements.specs.Tells.{Says, statements, says_fault}
-use Rattle.um_setsec.specs.Words.{Words, first_word, named}
-use Rattle.um_setsec.specs.Numbers.{number}
+use Rattle.um_decktext.specs.Words.{Words, first_word, named}
+use Rattle.um_decktext.specs.Numbers.{number}
 
 -- ---- SOS
 

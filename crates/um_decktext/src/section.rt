@@ -1,7 +1,7 @@
 //! The sections of a deck's text.
 
 ghost use Rattle.std.specs.Prelude.{◌≡◌, Some};
-ghost use Rattle.um_mps.specs.Sections.{is_section, rank, section_called};
+ghost use Rattle.um_decktext.specs.Sections.{is_section, rank, section_called};
 
 /// In the order in which they come.
 #[derive(Clone, Copy, PartialEq, Eq, Debug)]

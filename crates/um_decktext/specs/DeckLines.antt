@@ -3,9 +3,9 @@ use Rattle.std.specs.Prelude.{ℕ, Bool, true, false, ◌||◌, nat_eq, if◌the
 use Rattle.std.specs.List.{filter_map, list_any, after_last, last_or}
 use Rattle.um_text.specs.Lines.{lines}
 use Rattle.um_text.specs.Words.{words, is_gap}
-use Rattle.um_setsec.specs.Words.{Words, first_word}
-use Rattle.um_mps.specs.declared.section.Section.{Section}
-use Rattle.um_mps.specs.Sections.{section_called, is_section}
+use Rattle.um_decktext.specs.Words.{Words, first_word}
+use Rattle.um_decktext.specs.declared.section.Section.{Section}
+use Rattle.um_decktext.specs.Sections.{section_called, is_section}
 
 -- A line is skipped where it has no word or begins with `*`. One that begins with a blank or a tab is a data line;
 -- all others are headings of sections.

@@ -10,11 +10,11 @@ use Rattle.um_statements.specs.Said.{Said, collected}
 use Rattle.um_statements.specs.Tells.{statements, says_fault}
 use Rattle.um_statements.specs.Made.{deck_value}
 use Rattle.um_statements.specs.DeckRules.{deck_fault}
-use Rattle.um_mps.specs.declared.section.Section.TheVariants as section
-use Rattle.um_mps.specs.Sections.{is_section}
-use Rattle.um_mps.specs.DeckLines.{Line, deck_lines, heading_of}
-use Rattle.um_mps.specs.Places.{place_of}
-use Rattle.um_mps.specs.LinesSay.{line_says}
+use Rattle.um_decktext.specs.declared.section.Section.TheVariants as section
+use Rattle.um_decktext.specs.Sections.{is_section}
+use Rattle.um_decktext.specs.DeckLines.{Line, deck_lines, heading_of}
+use Rattle.um_decktext.specs.Places.{place_of}
+use Rattle.um_decktext.specs.LinesSay.{line_says}
 
 -- what each of these items gives, with the items that come before it
 abbrev pub each_from : {A B : Type 0} → (List A → A → List B) → List A → List A → List B

@@ -1,0 +1,10 @@
+pub mod Words
+pub mod Numbers
+pub mod SetLines
+pub mod Sections
+pub mod DeckLines
+pub mod LineWords
+pub mod Places
+pub mod LinesSay
+pub mod DeckText
+pub mod LineByLine
