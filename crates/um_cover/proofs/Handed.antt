@@ -3,9 +3,22 @@ use Rattle.std.proofs.Common.{◌≡◌, ℕ, List, [], ◌∷◌, map, Option, 
 use Rattle.um_model.specs.AnswerValues.{NodeValue, WhatValue, Split, Bounded, Empty, Void, OpenLeaf}
 use Rattle.um_tree.specs.declared.growing.Origin.{Origin}
 use Rattle.um_tree.specs.Growths.{GrowthValue, node_at, what_at, origin_at, origins_behind, AreInOrder, IsGrowth, IsTold}
-use Rattle.um_cover.specs.Sites.{further, way_in}
-use Rattle.um_cover.specs.Handing.{Handing, Site, waiting_behind, sites, sites_of, handed_along, handed_at, site_at}
+use Rattle.um_cover.specs.Sites.{further, way, way_in}
+use Rattle.um_cover.specs.Handing.{Handing, Site, waiting_behind, sites, sites_of}
 use Rattle.um_cover.proofs.Ways.{way_some}
+
+-- what the node at the lower end of a way was handed
+abbrev pub handed_along : {W : Type 0} → Handing W → GrowthValue → List Origin → W
+handed_along h g [] = h.first
+handed_along h g (o ∷ os) = h.child (handed_along h g os) (node_at g o.parent) o.branch o.side
+
+-- what a node was handed
+abbrev pub handed_at : {W : Type 0} → Handing W → GrowthValue → ℕ → W
+handed_at h g id = handed_along h g (way g id)
+
+-- a node of a growing tree with what it was handed
+abbrev pub site_at : {W : Type 0} → Handing W → GrowthValue → ℕ → Site W
+site_at h g id = record { has = handed_at h g id; node = node_at g id }
 
 module _ {W : Type 0} (h : Handing W) (g : GrowthValue) (growth : IsGrowth g) where
   abbrev pub handed_from : Option Origin → W

@@ -6,7 +6,7 @@ use Rattle.um_multipliers.specs.PlainMultipliers.{MultipliersValue, plain_multip
 use Rattle.um_model.specs.Values.{PointValue, plain_point}
 use Rattle.um_model.specs.declared.answer.Answer.{Answer}
 use Rattle.um_model.specs.declared.answer.AnswerKind.{AnswerKind}
-use Rattle.um_model.specs.declared.answer.AnswerKind.TheVariants.{Limit, Overflow}
+use Rattle.um_model.specs.declared.answer.AnswerKind.TheVariants as kind
 use Rattle.um_model.specs.declared.answer.Why.{Why}
 use Rattle.um_model.specs.declared.answer.Why.TheVariants as why
 use Rattle.um_model.specs.declared.branch.Branch.{Branch}
@@ -17,16 +17,24 @@ use Rattle.um_model.specs.declared.tree.What.TheVariants as what
 
 -- what became of a node
 pub data WhatValue : Type 0 where
+  -- it was divided by this branch; its left and its right tree follow
   Split : Branch → WhatValue
+  -- these multipliers show that no point of its box beats the answer
   Bounded : MultipliersValue → WhatValue
+  -- these multipliers show that its box has no feasible point
   Empty : MultipliersValue → WhatValue
+  -- the low end of this column is above its high end
   Void : ℕ → WhatValue
+  -- the search stopped before it; these multipliers bound its box
   OpenLeaf : MultipliersValue → WhatValue
 
+-- a node of a tree: when it was solved, if it was, and what became of it
 pub record NodeValue : Type 0 where
   pub solved : Option Solved
   pub what : WhatValue
 
+-- an answer, objective and bound as for minimising, the tolerance in thousandths, the tree's nodes
+-- in preorder; `plain_answer` below takes it from the program's own type
 pub record AnswerValue : Type 0 where
   pub kind : AnswerKind
   pub why : Option Why
@@ -37,6 +45,7 @@ pub record AnswerValue : Type 0 where
   pub ray : Option (List ℤ)
   pub tree : List NodeValue
 
+-- each of the next four takes the program's type to its plain value
 abbrev pub plain_what : What → WhatValue
 plain_what (what.Split branch) = Split branch
 plain_what (what.Bounded y) = Bounded (plain_multipliers y)
@@ -44,12 +53,15 @@ plain_what (what.Empty y) = Empty (plain_multipliers y)
 plain_what (what.Void column) = Void column
 plain_what (what.OpenLeaf y) = OpenLeaf (plain_multipliers y)
 
+-- a node
 abbrev pub plain_node : Node → NodeValue
 plain_node n = record { solved = n.solved; what = plain_what n.what }
 
+-- the numbers of a ray, one for each column
 abbrev pub plain_ray : Listed ℤ → List ℤ
 plain_ray r = r.items
 
+-- an answer
 abbrev pub plain_answer : Answer → AnswerValue
 plain_answer a = record {
   kind = a.kind;
@@ -62,10 +74,15 @@ plain_answer a = record {
   tree = map plain_node a.tree;
 }
 
--- the kind of an answer whose search stopped for this: Limit at its budget or at a limit of its grid, and Overflow where a number became too large
+-- the kind of an answer whose search stopped for this: Limit at its budget or at a limit of its
+-- grid, and Overflow where a number became too large
 abbrev pub kind_of_stop : Why → AnswerKind
-kind_of_stop why.Nodes = Limit
-kind_of_stop why.Pivots = Limit
-kind_of_stop (why.Points column) = Limit
-kind_of_stop (why.Grid number) = Limit
-kind_of_stop other = Overflow
+kind_of_stop why.Nodes = kind.Limit
+kind_of_stop why.Pivots = kind.Limit
+kind_of_stop (why.Points column) = kind.Limit
+kind_of_stop (why.Grid number) = kind.Limit
+kind_of_stop (why.Pivot number step wide) = kind.Overflow
+kind_of_stop (why.Value number step wide) = kind.Overflow
+kind_of_stop (why.Leaf number) = kind.Overflow
+kind_of_stop (why.Vertex number) = kind.Overflow
+kind_of_stop why.Ray = kind.Overflow

@@ -11,8 +11,7 @@ use Rattle.um_tree.specs.declared.growing.Origin.{Origin}
 use Rattle.um_tree.specs.Growths.{GrowthValue, origin_at, node_at, what_at, no_node, settled, IsLeaf, IsGrowth, IsTold, AreInside, parted}
 use Rattle.um_tree.proofs.Orders.{IsParted}
 use Rattle.um_tree.proofs.Writes.{no_leaf, is_parted, in_front, size_after}
-use Rattle.um_cover.specs.Handing.{site_at}
-use Rattle.um_cover.proofs.Handed.{handed_is, sites-law}
+use Rattle.um_cover.proofs.Handed.{site_at, handed_is, sites-law}
 use Rattle.um_progress.specs.Waits.{IsFresh}
 use Rattle.um_progress.specs.Numbers.{Number, IsNumbered}
 use Rattle.um_progress.specs.Lineage.{number_of, parent_numbers, IsAboveParent, NumbersRise, IsLineage}

@@ -1,14 +1,19 @@
 -- The root box and the children of a box are boxes of the deck.
-use Rattle.std.proofs.Common.{ℕ, ◌∙◌}
+use Rattle.std.proofs.Common.{◌≡◌, ℕ, length, ◌∙◌}
 use Rattle.std.proofs.Math.ListN.{length-set}
 use Rattle.um_model.specs.Values.{DeckValue}
-use Rattle.um_model.specs.Boxes.{BoxValue, Ends, Span, IsBoxOf, root, with_ends, with_span}
+use Rattle.um_model.specs.Boxes.{BoxValue, Ends, Span, root, with_ends, with_span}
 use Rattle.um_model.specs.Branches.{child}
 use Rattle.um_model.specs.declared.branch.Branch.{Branch}
 use Rattle.um_model.specs.declared.branch.Branch.TheVariants.{Int, Cut, Semi, One, Two}
 use Rattle.um_model.specs.declared.branch.Side.{Side}
 use Rattle.um_model.specs.declared.branch.Side.TheVariants.{Left, Right}
 use Rattle.um_laws.proofs.Places.{length-map}
+
+-- the box has ends for each column of the deck, and an interval for each set
+pub record IsBoxOf (d : DeckValue) (b : BoxValue) : Type 0 where
+  pub ends : length b.ends ≡ length d.columns
+  pub spans : length b.spans ≡ length d.sets
 
 pub root_is_box : (d : DeckValue) → IsBoxOf d (root d)
 root_is_box d = record { ends = length-map _ d.columns; spans = length-map _ d.sets }

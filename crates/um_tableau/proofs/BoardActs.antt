@@ -20,7 +20,8 @@ use Rattle.um_lp.proofs.Rows.{same_or_not}
 use Rattle.um_lp.proofs.Starts.{HasSlackBasis}
 use Rattle.um_tableau.specs.Rows.{AreSpare, AreDistinct}
 use Rattle.um_tableau.specs.Sheets.{state_of, IsSheet, IsSpare, IsPivoted, IsReboxed, AreEndsInRange, basic_at, ends_at}
-use Rattle.um_tableau.specs.Stands.{Stands, board_of, stands_of}
+use Rattle.um_tableau.specs.Stands.{Stands, board_of}
+use Rattle.um_tableau.proofs.KeptBoards.{stands_of}
 use Rattle.um_tableau.specs.declared.sheet.Sheet.{Sheet}
 use Rattle.um_tableau.specs.declared.sheet.Spare.{Spare}
 use Rattle.um_tableau.proofs.Copies.{room_of}

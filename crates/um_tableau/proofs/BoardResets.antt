@@ -19,7 +19,8 @@ use Rattle.um_lp.proofs.Starts.{HasSlackBasis, IsBoard-start, IsReset-start}
 use Rattle.um_lines.proofs.Shorts.{never}
 use Rattle.um_tableau.specs.Rows.{row_at}
 use Rattle.um_tableau.specs.Sheets.{state_of, AreEndsInRange}
-use Rattle.um_tableau.specs.Stands.{Stands, stands_of}
+use Rattle.um_tableau.specs.Stands.{Stands}
+use Rattle.um_tableau.proofs.KeptBoards.{stands_of}
 use Rattle.um_tableau.specs.Starts.{bare, charged, AreCosts, AreFirstLines, IsSized}
 use Rattle.um_tableau.specs.declared.reset.FirstLines.{FirstLines}
 use Rattle.um_tableau.specs.declared.sheet.Sheet.{Sheet}

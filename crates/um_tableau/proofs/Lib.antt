@@ -14,3 +14,4 @@ pub mod FirstBasis
 mod NarrowLines
 pub mod Copies
 pub mod BoardResets
+pub mod KeptBoards

@@ -32,19 +32,3 @@ board_of s h = record {
   reduced = h.reduced_costs;
   values = h.values_are;
 }
-
-pub stands_of : (s : State) → IsBoard s → Stands s
-stands_of s b = record {
-  basic = b.shape.basic;
-  at = b.shape.at;
-  ends = b.shape.ends;
-  entries = b.shape.entries;
-  long = λ i l. All-get_or (λ (row : List Rational). length row ≡ width s.frame) s.entries i [] l b.shape.long;
-  reduced = b.shape.reduced;
-  values = b.shape.values;
-  named = b.basis.named;
-  found = λ column l e none. let row = b.basis.found column l e in none row.0 row.1 row.2;
-  tableau = b.tableau;
-  reduced_costs = b.reduced;
-  values_are = b.values;
-}

@@ -3,7 +3,7 @@ use Rattle.um_lp.specs.States.{Frame, width}
 use Rattle.um_lp.specs.Relaxations.{frame_of}
 use Rattle.um_lp.proofs.Starts.{IsBoard-start, IsStart-start}
 use Rattle.um_tableau.specs.Sheets.{state_of}
-use Rattle.um_tableau.specs.Stands.{stands_of}
+use Rattle.um_tableau.proofs.KeptBoards.{stands_of}
 use Rattle.um_tableau.proofs.BoardActs.{first_room}
 use Rattle.um_tableau.proofs.tableau.Tableau.new.Goals as goal
 
