@@ -10,7 +10,7 @@ use Rattle.um_model.specs.declared.answer.Why.TheVariants as why
 use Rattle.um_lp.specs.States.{State}
 use Rattle.um_duality.specs.Relaxed.{StandsFor}
 use Rattle.um_solving.proofs.NodeReadings.{held-law, stopped-law}
-use Rattle.um_solving.proofs.Runs.{run_stands}
+use Rattle.um_relax.proofs.Runs.{run_stands}
 use Rattle.um_opening.proofs.Begun.{begun_stands}
 use Rattle.um_solving.proofs.Prices.{none_of, no_pairs}
 use Rattle.um_tree.specs.Growths.{GrowthValue, origin_at}

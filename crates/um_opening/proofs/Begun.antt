@@ -10,7 +10,7 @@ use Rattle.um_lp.specs.declared.board.Costs.TheVariants.{Given}
 use Rattle.um_duality.specs.Relaxed.{StandsFor, deck_frame}
 use Rattle.um_solving.specs.Laws.{MayBegin}
 use Rattle.um_solving.proofs.Goings.{no-costs-begin-law}
-use Rattle.um_solving.proofs.Runs.{run_stands}
+use Rattle.um_relax.proofs.Runs.{run_stands}
 use Rattle.um_ray.specs.Directions.{directions}
 use Rattle.um_ray.specs.Starts.{IsStartRun, IsReadyAfter}
 use Rattle.um_ray.proofs.MovingEnds.{stands_moving, stands_on_deck}

@@ -14,8 +14,8 @@ use Rattle.um_duality.specs.Boxed.{row_ends, ends_on}
 use Rattle.um_duality.specs.Relaxed.{StandsFor, side_end, column_data, deck_frame}
 use Rattle.um_duality.proofs.LeafBridge.{column_at, no_column, ends-column, ends-slack}
 use Rattle.um_soundness.proofs.Loops.{root_ends}
-use Rattle.um_solving.proofs.HeldColumns.{none_shut_out}
-use Rattle.um_solving.proofs.Runs.{on_box}
+use Rattle.um_soundness.proofs.HeldColumns.{none_shut_out}
+use Rattle.um_relax.proofs.Runs.{on_box}
 use Rattle.um_ray.specs.Directions.{fall, rise, still, moving_column, moving_row, directions}
 use Rattle.um_ray.specs.Laws.{MayStartLaw, OnDirectionsLaw}
 

@@ -14,7 +14,7 @@ use Rattle.um_lp.specs.declared.board.Costs.TheVariants.{Given}
 use Rattle.um_duality.specs.Laws.{IsOnBox}
 use Rattle.um_duality.specs.Relaxed.{StandsFor, deck_frame}
 use Rattle.um_relax.specs.Reboxings.{BoxedWhole}
-use Rattle.um_solving.proofs.Runs.{reboxed_stands, ready_of, run_of, same-costs-law}
+use Rattle.um_relax.proofs.Runs.{reboxed_stands, ready_of, run_of, same-costs-law}
 use Rattle.um_ray.specs.Directions.{directions}
 use Rattle.um_ray.specs.Rays.{slope}
 use Rattle.um_ray.specs.Starts.{WantsOwnEnds, IsStartRun, EndedAs, StartedAs}

@@ -8,7 +8,7 @@ use Rattle.um_lp.specs.States.{State}
 use Rattle.um_lp.specs.declared.board.Costs.TheVariants.{Given}
 use Rattle.um_duality.specs.Laws.{IsOnBox}
 use Rattle.um_duality.specs.Relaxed.{deck_frame}
-use Rattle.um_solving.proofs.Runs.{same-costs-law}
+use Rattle.um_relax.proofs.Runs.{same-costs-law}
 use Rattle.um_ray.specs.Directions.{directions}
 use Rattle.um_ray.specs.Laws.{StartedReadyLaw, StartedRayLaw, StartedLargeLaw}
 use Rattle.um_ray.specs.Rays.{direction}

@@ -7,4 +7,5 @@ pub mod NormalPrices
 pub mod PartDenominators
 pub mod Readings
 pub mod Reboxing
+pub mod Runs
 pub mod SmallNumbers

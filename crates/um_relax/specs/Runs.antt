@@ -1,5 +1,5 @@
 -- A run of the dual simplex method on a box, from any state of a board.
-use Rattle.std.specs.Prelude.{ℕ}
+use Rattle.std.specs.Prelude.{◌≡◌, ℕ}
 use Rattle.um_model.specs.Values.{DeckValue}
 use Rattle.um_model.specs.Boxes.{BoxValue}
 use Rattle.um_lp.specs.States.{State, width}
@@ -22,3 +22,9 @@ pub record IsRun (d : DeckValue) (b : BoxValue) (before : State) (pivots : ℕ) 
   pub board : IsBoard s
   pub on : IsBoxed d b s
   pub feasible : IsDualFeasible s
+
+-- A run leaves the costs that the board takes.
+abbrev pub SameCostsLaw : Type 0
+SameCostsLaw =
+    (d : DeckValue) (b : BoxValue) (before : State) (pivots : ℕ) (s : State)
+    → IsRun d b before pivots s → s.costs ≡ before.costs

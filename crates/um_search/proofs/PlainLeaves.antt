@@ -21,7 +21,7 @@ use Rattle.um_solving.specs.RootBoxes.{IsWithinRoot}
 use Rattle.um_solving.specs.Solvings.{AtVertex, IsUnread, OwnMultipliers, VertexValues, FarkasMultipliers}
 use Rattle.um_solving.proofs.Goings.{next-law}
 use Rattle.um_solving.proofs.NoCosts.{no-costs-vertex-law}
-use Rattle.um_solving.proofs.Runs.{same-costs-law}
+use Rattle.um_relax.proofs.Runs.{same-costs-law}
 use Rattle.um_opening.specs.Numbers.{Begins, Onward, WithCosts, WithoutCosts, MayGoOn}
 use Rattle.um_opening.specs.Openings.{ShowsRay}
 use Rattle.um_opening.proofs.Begun.{begun-law, begun-without-law, shown-ray-law}

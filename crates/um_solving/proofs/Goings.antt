@@ -19,9 +19,9 @@ use Rattle.um_duality.specs.Boxed.{ends_on}
 use Rattle.um_duality.proofs.LeafBridge.{ends-column, ends-slack}
 use Rattle.um_solving.specs.Laws.{DiscreteEndsLaw, WithinLaw, NoCostsBeginLaw, NextLaw}
 use Rattle.um_solving.specs.RootBoxes.{AreWithin, IsWithinRoot}
-use Rattle.um_solving.proofs.HeldColumns.{none_shut_out}
+use Rattle.um_soundness.proofs.HeldColumns.{none_shut_out}
 use Rattle.um_solving.proofs.RootBoxes.{own_ends, given_within, some_none}
-use Rattle.um_solving.proofs.Runs.{run_stands}
+use Rattle.um_relax.proofs.Runs.{run_stands}
 
 -- ---- the ends that are there
 

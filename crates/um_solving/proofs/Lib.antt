@@ -1,7 +1,7 @@
-pub mod Runs
+pub mod EndedRuns
 pub mod Prices
 pub mod Refusals
-pub mod HeldColumns
+pub mod HeldMembers
 pub mod RootBoxes
 pub mod FeasiblePoints
 pub mod SetMembers

@@ -18,7 +18,7 @@ use Rattle.um_duality.specs.Readings.{slack_costs, multipliers}
 use Rattle.um_duality.specs.WholeMultiples.{times, whole_multiples, prices_from}
 use Rattle.um_duality.proofs.ReadNumbers.{costs-length, cost-is}
 use Rattle.um_solving.specs.Laws.{NoCostsVertexLaw}
-use Rattle.um_solving.proofs.Runs.{same-costs-law}
+use Rattle.um_relax.proofs.Runs.{same-costs-law}
 
 -- each number of the list is 0
 abbrev AreZeros : List Rational → Type 0

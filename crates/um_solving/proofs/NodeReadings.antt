@@ -28,7 +28,7 @@ use Rattle.um_relax.specs.Runs.{IsRun}
 use Rattle.um_solving.specs.Laws.{VertexLaw, HeldLaw, EmptyLaw, StoppedLaw, OwnSays}
 use Rattle.um_solving.specs.Solvings.{IsUnread, OwnMultipliers, VertexValues, FarkasMultipliers, WideEnds, WideReading}
 use Rattle.um_solving.proofs.Prices.{rising_prices}
-use Rattle.um_solving.proofs.Runs.{run_stands, on_box, same-costs-law}
+use Rattle.um_relax.proofs.Runs.{run_stands, on_box, same-costs-law}
 
 positive_multipliers : (s : State) → pos 0 <ℤ (multipliers s).y0
 positive_multipliers s = let h = denominator_positive (slack_costs s) in omega (arith, ints)

@@ -15,7 +15,8 @@ use Rattle.um_deck.proofs.ListParts.{all_at}
 use Rattle.um_soundness.proofs.Loops.{root_ends}
 use Rattle.um_solving.specs.Laws.{FullRootLaw, RootWithinLaw, ChildWithinLaw}
 use Rattle.um_solving.specs.RootBoxes.{AreWithin, IsWithinRoot}
-use Rattle.um_solving.proofs.HeldColumns.{held, none_shut_out, member_high, member_ends}
+use Rattle.um_soundness.proofs.HeldColumns.{held, none_shut_out}
+use Rattle.um_solving.proofs.HeldMembers.{member_high, member_ends}
 
 -- the root box has the own ends of a column
 pub own_ends : (d : DeckValue) (column : ℕ) (c : ColumnValue) → AtPlace d.columns column c → ends_at (root d) column ≡ record { low = c.low; high = c.high }

@@ -12,7 +12,7 @@ use Rattle.um_deck.proofs.ListParts.{all_at}
 use Rattle.um_duality.specs.Laws.{HoldsOnBox}
 use Rattle.um_solving.specs.Laws.{MembersLaw}
 use Rattle.um_solving.specs.RootBoxes.{IsWithinRoot}
-use Rattle.um_solving.proofs.HeldColumns.{shut_out}
+use Rattle.um_soundness.proofs.HeldColumns.{shut_out}
 use Rattle.um_solving.proofs.RootBoxes.{own_ends, given_within}
 use Rattle.um_solving.proofs.FeasiblePoints.{between_outer}
 

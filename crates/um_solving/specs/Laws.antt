@@ -76,10 +76,6 @@ NoCostsBeginLaw = (d : DeckValue) (s : State) → IsBoard s → StandsFor d s �
 abbrev pub NextLaw : Type 0
 NextLaw = (d : DeckValue) (b : BoxValue) (before : State) (pivots : ℕ) (s : State) → IsDeck d → IsWithinRoot d b → StandsFor d before → IsRun d b before pivots s → MayBegin d s
 
--- A run leaves the costs that the board takes.
-abbrev pub SameCostsLaw : Type 0
-SameCostsLaw = (d : DeckValue) (b : BoxValue) (before : State) (pivots : ℕ) (s : State) → IsRun d b before pivots s → s.costs ≡ before.costs
-
 -- ---- what the ends of a node mean for the deck
 
 -- the vertex satisfies the rows and lies within the ends of the box; its multipliers are those of rows of the deck, the objective's is above 0, and their leaf value has an end, whose bound is the objective of the vertex

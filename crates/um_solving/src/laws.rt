@@ -1,6 +1,7 @@
 //! Functions that do nothing: each has a law as its contract, so that the law is sure to be proved.
 
-ghost use Rattle.um_solving.specs.Laws.{FullRootLaw, RootWithinLaw, ChildWithinLaw, FeasibleLaw, MembersLaw, DiscreteEndsLaw, WithinLaw, NoCostsBeginLaw, NextLaw, SameCostsLaw, VertexLaw, HeldLaw, NoCostsVertexLaw, EmptyLaw, StoppedLaw};
+ghost use Rattle.um_relax.specs.Runs.{SameCostsLaw};
+ghost use Rattle.um_solving.specs.Laws.{FullRootLaw, RootWithinLaw, ChildWithinLaw, FeasibleLaw, MembersLaw, DiscreteEndsLaw, WithinLaw, NoCostsBeginLaw, NextLaw, VertexLaw, HeldLaw, NoCostsVertexLaw, EmptyLaw, StoppedLaw};
 
 /// The root box of a well-formed deck is not void.
 pub fn full_root_law()

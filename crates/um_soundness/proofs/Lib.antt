@@ -8,6 +8,7 @@ pub mod Duality
 pub mod Examples
 pub mod Exchange
 pub mod Exclusion
+pub mod HeldColumns
 pub mod Leaves
 pub mod Loops
 pub mod Moving

@@ -41,7 +41,7 @@ one_true false b e = inr e
 below_is : (m n : ℕ) → nat_lt m n ≡ true → m < n
 below_is m n e = grind (arith, nat_tests)
 
-outside_is : (span : Span) (position : ℕ) → (nat_lt position span.first || nat_lt span.last position) ≡ true → IsOutside span position
+pub outside_is : (span : Span) (position : ℕ) → (nat_lt position span.first || nat_lt span.last position) ≡ true → IsOutside span position
 outside_is span position e = elim (one_true (nat_lt position span.first) (nat_lt span.last position) e)
     [ inl l ↦ inl (below_is position span.first l) | inr l ↦ inr (below_is span.last position l) ]
 

@@ -9,7 +9,7 @@ use Rattle.um_lp.specs.declared.board.Costs.TheVariants.{Given}
 use Rattle.um_relax.specs.Runs.{IsRun}
 use Rattle.um_solving.specs.RootBoxes.{IsWithinRoot}
 use Rattle.um_solving.proofs.Goings.{next-law}
-use Rattle.um_solving.proofs.Runs.{same-costs-law}
+use Rattle.um_relax.proofs.Runs.{same-costs-law}
 use Rattle.um_opening.specs.Numbers.{Begins, Onward, WithCosts, WithoutCosts, MayGoOn}
 use Rattle.um_opening.specs.Openings.{ShowsRay}
 use Rattle.um_opening.proofs.Begun.{begun-law, begun-costs-law}

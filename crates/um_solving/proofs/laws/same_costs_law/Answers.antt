@@ -1,4 +1,4 @@
-use Rattle.um_solving.proofs.Runs.{same-costs-law}
+use Rattle.um_relax.proofs.Runs.{same-costs-law}
 use Rattle.um_solving.proofs.laws.same_costs_law.Goals as goal
 
 pub returns : goal.returns

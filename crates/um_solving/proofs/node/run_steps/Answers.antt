@@ -1,5 +1,6 @@
 use Rattle.std.proofs.Common.{◌-◌, refl, arith}
-use Rattle.um_solving.proofs.Runs.{run_of, steps_stand, ended_of}
+use Rattle.um_relax.proofs.Runs.{run_of, steps_stand}
+use Rattle.um_solving.proofs.EndedRuns.{ended_of}
 use Rattle.um_solving.proofs.node.run_steps.Goals as goal
 
 pub at_vertex-requires-clause-stands : goal.at_vertex-requires-clause-stands

@@ -1,6 +1,6 @@
 use Rattle.std.proofs.Common.{◌≡◌, ◌-◌, arith, refl, inl}
 use Rattle.um_lp.specs.States.{width}
-use Rattle.um_solving.proofs.Runs.{reboxed_stands, ready_of}
+use Rattle.um_relax.proofs.Runs.{reboxed_stands, ready_of}
 use Rattle.um_solving.proofs.node.solve_node.Goals as goal
 
 pub run_steps-requires-clause-stands : goal.run_steps-requires-clause-stands

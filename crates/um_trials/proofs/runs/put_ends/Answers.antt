@@ -3,7 +3,7 @@ use Rattle.um_model.specs.Boxes.{BoxValue, IsVoid}
 use Rattle.um_lp.specs.States.{width}
 use Rattle.um_relax.specs.Reboxings.{WantsFiniteEnds}
 use Rattle.um_solving.proofs.RootBoxes.{full-root-law}
-use Rattle.um_solving.proofs.Runs.{reboxed_stands}
+use Rattle.um_relax.proofs.Runs.{reboxed_stands}
 use Rattle.um_trials.proofs.runs.put_ends.Goals as goal
 
 pub rebox-requires-clause-full : goal.rebox-requires-clause-full

@@ -1,5 +1,5 @@
 use Rattle.std.proofs.Common.{◌∙◌, sym}
-use Rattle.um_solving.proofs.Runs.{steps_stand}
+use Rattle.um_relax.proofs.Runs.{steps_stand}
 use Rattle.um_trials.proofs.runs.read_end.Goals as goal
 
 pub multipliers-requires-clause-frame : goal.multipliers-requires-clause-frame

@@ -1,7 +1,6 @@
 -- What a run on a board keeps.
-use Rattle.std.proofs.Common.{◌≡◌, ◌∙◌, ℕ, ◌+◌, ◌<◌, zero, suc, refl, Result, Ok, Err, ap, subst}
-use Rattle.std.specs.Prelude.{ℤ, List, [], Option, None, slice_index_or, IfOk}
-use Rattle.um_num.specs.declared.Memory.{Memory}
+use Rattle.std.proofs.Common.{◌≡◌, ◌∙◌, ℕ, ◌<◌, zero, suc, ap, subst}
+use Rattle.std.specs.Prelude.{ℤ, List, [], Option, None, slice_index_or}
 use Rattle.um_model.specs.Values.{DeckValue}
 use Rattle.um_model.specs.Boxes.{BoxValue}
 use Rattle.um_lp.specs.States.{State, Frame, width}
@@ -11,10 +10,7 @@ use Rattle.um_duality.specs.Boxed.{IsBoxed}
 use Rattle.um_duality.specs.Laws.{IsOnBox}
 use Rattle.um_duality.specs.Relaxed.{StandsFor}
 use Rattle.um_relax.specs.Reboxings.{AreReboxed, BoxedWhole}
-use Rattle.um_solving.specs.Endings.{EndedAs, HasEndedAs}
-use Rattle.um_solving.specs.Laws.{SameCostsLaw}
-use Rattle.um_relax.specs.Runs.{IsReady, IsRun}
-use Rattle.um_solving.specs.declared.node.NodeEnd.{NodeEnd}
+use Rattle.um_relax.specs.Runs.{IsReady, IsRun, SameCostsLaw}
 
 same_twice : (s m t : State) → SameRows s m → SameRows m t → SameRows s t
 same_twice s m t a b = record { frame = b.frame ∙ a.frame; placed = b.placed ∙ a.placed; costs = b.costs ∙ a.costs }
@@ -81,9 +77,3 @@ run_of d b before pivots ready s h steps board feasible = record {
   on = steps_boxed d b pivots ready s steps h.on;
   feasible = feasible;
 }
-
--- what ends by any run of so many pivots ends by this one
-pub ended_of : (d : DeckValue) (b : BoxValue) (before : State) (early pivots left number : ℕ) (ready s : State) (result : Result NodeEnd Memory) → IfOk result (λ e. HasEndedAs d b (early + pivots) number e s) → IsReady d b before ready → AreSteps pivots ready s
-    → IsBoard s → IsDualFeasible s → IfOk result (λ e. EndedAs d b before early pivots left number e s)
-ended_of d b before early pivots left number ready s (Ok e) h is steps board feasible = h before early pivots left refl (run_of d b before pivots ready s is steps board feasible)
-ended_of d b before early pivots left number ready s (Err m) h is steps board feasible = tt

@@ -1,18 +1,17 @@
 -- The columns that a box holds at 0, as members of sets outside the sets' intervals.
-use Rattle.std.proofs.Common.{◌≡◌, ◌∙◌, ℕ, ◌+◌, ◌-◌, ◌<◌, nat_lt, ℤ, pos, ◌≤ℤ◌, Bool, true, false, ◌||◌, ◌&&◌, inl, inr, List, length, slice_get, slice_index_or, Some, sym, ap, subst, eqb-true, arith}
-use Rattle.std.specs.Prelude.{◌==◌, IsSome}
+use Rattle.std.proofs.Common.{◌≡◌, ◌∙◌, ℕ, ◌+◌, ◌-◌, ◌<◌, nat_lt, Bool, true, false, ◌||◌, ◌&&◌, inl, inr, List, length, slice_get, slice_index_or, Some, sym, ap, subst, eqb-true, arith}
+use Rattle.std.specs.Prelude.{◌==◌}
 use Rattle.std.specs.List.{list_any, enumerate_from}
-use Rattle.std.proofs.lemmas.Bool.{and_parts, and_from, or_cases, or_left, or_right, eq-eqb, false_from_ne_true}
+use Rattle.std.proofs.lemmas.Bool.{and_parts, and_from, or_left, or_right, eq-eqb, false_from_ne_true}
 use Rattle.std.proofs.lemmas.Bool.Decides.{nat_tests}
 use Rattle.std.proofs.lemmas.List.Folds.{list_any_at}
 use Rattle.std.proofs.lemmas.List.FromFn.{length-enumerate_from, get_or-enumerate_from}
 use Rattle.um_laws.proofs.Places.{item_of, item_at, at_map}
-use Rattle.um_model.specs.Values.{DeckValue, ColumnValue, SetValue}
-use Rattle.um_model.specs.WellFormed.{AtPlace, IsDeck, IsSet, IsMember, IsColumn}
+use Rattle.um_model.specs.Values.{DeckValue, SetValue}
+use Rattle.um_model.specs.WellFormed.{AtPlace}
 use Rattle.um_model.specs.Boxes.{BoxValue, Span, IsOutside, root, span_at, is_outside, is_shut_out}
 use Rattle.um_model.specs.declared.deck.Member.{Member}
-use Rattle.um_deck.proofs.ListParts.{all_at}
-use Rattle.um_soundness.proofs.VoidBoxes.{passed}
+use Rattle.um_soundness.proofs.VoidBoxes.{passed, outside_is}
 
 -- the column is a member of a set, at a position outside the set's interval
 pub record IsHeld (d : DeckValue) (b : BoxValue) (column : ℕ) : Type 0 where
@@ -24,13 +23,6 @@ pub record IsHeld (d : DeckValue) (b : BoxValue) (column : ℕ) : Type 0 where
   pub at_position : AtPlace whole.members position member
   pub is : member.column ≡ column
   pub outside : IsOutside (span_at b set) position
-
-below_is : (m n : ℕ) → nat_lt m n ≡ true → m < n
-below_is m n e = grind (arith, nat_tests)
-
-outside_is : (span : Span) (position : ℕ) → (nat_lt position span.first || nat_lt span.last position) ≡ true → IsOutside span position
-outside_is span position e =
-    elim (or_cases (nat_lt position span.first) (nat_lt span.last position) e) [ inl l ↦ inl (below_is position span.first l) | inr l ↦ inr (below_is span.last position l) ]
 
 less_is : (m n : ℕ) → m < n → nat_lt m n ≡ true
 less_is m n l = grind (arith, nat_tests)
@@ -102,20 +94,3 @@ none_held d column h =
 -- whole sets hold no column
 pub none_shut_out : (d : DeckValue) (column : ℕ) → is_shut_out d (root d) column ≡ false
 none_shut_out d column = false_from_ne_true (is_shut_out d (root d) column) (λ e. none_held d column (held d (root d) column e))
-
--- ---- members
-
--- a member of a well-formed deck has a finite high end
-pub member_ends : (d : DeckValue) (b : BoxValue) (column : ℕ) (c : ColumnValue) → IsDeck d → AtPlace d.columns column c → IsHeld d b column → IsSome c.high
-member_ends d b column c formed at h =
-    let set : IsSet d h.whole = all_at (IsSet d) d.sets h.set h.whole formed.sets h.at_set in
-    let member : IsMember d h.member = all_at (IsMember d) h.whole.members h.position h.member set.members h.at_position in
-    member.high c (subst (λ (j : ℕ). AtPlace d.columns j c) (sym h.is) at)
-
--- a member of a well-formed deck has the low end 0, and so no high end below that
-pub member_high : (d : DeckValue) (b : BoxValue) (column : ℕ) (c : ColumnValue) (high : ℤ) → IsDeck d → AtPlace d.columns column c → IsHeld d b column → c.high ≡ Some high → pos 0 ≤ℤ high
-member_high d b column c high formed at h is =
-    let set : IsSet d h.whole = all_at (IsSet d) d.sets h.set h.whole formed.sets h.at_set in
-    let member : IsMember d h.member = all_at (IsMember d) h.whole.members h.position h.member set.members h.at_position in
-    let own : IsColumn (length d.rows) c = all_at (IsColumn (length d.rows)) d.columns column c formed.columns at in
-    own.order (pos 0) (member.low c (subst (λ (j : ℕ). AtPlace d.columns j c) (sym h.is) at)) high is
