@@ -1,3 +1,4 @@
+pub mod FaultWords
 pub mod Statements
 pub mod Said
 pub mod Scaled

@@ -1,3 +1,4 @@
+pub mod FaultWords
 pub mod TreeText
 pub mod Words
 pub mod FrontLines
