@@ -1,13 +1,13 @@
 //! The tree that grows.
 
-ghost use Rattle.std.specs.Prelude.{◌≡◌, ◌+◌, ◌<◌, ◌≤◌, [], ◌∷◌, length, map, None, Some, IfOk, OnOk, OnErr};
+ghost use Rattle.std.specs.Prelude.{◌≡◌, ◌+◌, ◌<◌, ◌≤◌, [], ◌∷◌, length, map, slice_set, slice_index_or, None, Some, IfOk, OnOk, OnErr};
 ghost use Rattle.um_model.specs.AnswerValues.{plain_node, plain_what};
-ghost use Rattle.um_tree.specs.Growths.{origin_at, what_at, node_at, IsLeaf, IsOpenAt, parted, settled, IsTold};
+ghost use Rattle.um_tree.specs.Growths.{origin_at, what_at, node_at, no_node, IsLeaf, IsOpenAt, parted, settled, IsTold};
 
-use crate::told::told;
 use std::alloc::Global;
 use std::marker::Model;
-use um_model::{Branch, Node, Side, Solved, Tree, What};
+use std::mem::replace;
+use um_model::{Branch, Node, Side, Solved, Tree, TreeFull, What};
 use um_num::{List, Memory};
 
 /// Where a node came from: it is the child of this node, by this branch, on this side.
@@ -149,10 +149,33 @@ impl Growth {
         ensures { IfOk result (λ tree. IsTold self (map plain_node tree)) }
     {
         let Growth {
-            origins,
+            origins: _origins,
             mut nodes,
             nexts,
         } = self;
-        told(alloc, origins.as_slice(), &mut nodes, nexts.as_slice())
+        let nexts = nexts.as_slice();
+        let mut tree = Tree::new(alloc);
+        let mut next = Some(0);
+        for _place in 0..nexts.len() {
+            let Some(id) = next else { unreachable!() };
+            let node = take_node(&mut nodes, id);
+            next = nexts[id as usize];
+            match tree.push(node) {
+                Ok(()) => {}
+                Err(TreeFull::Full) => unreachable!(),
+                Err(TreeFull::Memory) => return Err(Memory),
+            }
+        }
+        Ok(tree)
     }
+}
+
+/// The node of this id, with another one left in its place.
+fn take_node(nodes: &mut List<Node>, id: u32) -> Node
+    requires { id < length nodes.old.items }
+    ensures node { plain_node result ≡ slice_index_or (map plain_node nodes.old.items) id no_node }
+    ensures left { map plain_node nodes.new.items ≡ slice_set (map plain_node nodes.old.items) id no_node }
+{
+    let what = What::Void(0);
+    replace(nodes.at_mut(id as usize), Node { solved: None, what })
 }

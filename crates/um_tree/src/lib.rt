@@ -7,7 +7,6 @@
 #![tactic(auto)]
 
 mod growing;
-mod told;
 
 pub use growing::{Growth, Origin};
 pub use um_model::{Answer, AnswerKind, Branch, Node, Side, Solved, Tree, TreeFull, What, Why};

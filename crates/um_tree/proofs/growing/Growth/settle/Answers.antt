@@ -1,4 +1,4 @@
-use Rattle.std.proofs.Common.{subst, sym, map, ap, ◌∙◌, List}
+use Rattle.std.proofs.Common.{subst, sym, ap, ◌∙◌, List}
 use Rattle.um_model.specs.AnswerValues.{NodeValue, plain_node}
 use Rattle.um_tree.specs.Growths.{GrowthValue, IsOpenAt, settled}
 use Rattle.um_tree.specs.Links.{IsGrowing}

@@ -1,12 +1,17 @@
-use Rattle.std.proofs.Common.{[], ◌∷◌, ◌++◌, List, map, Err, ap, ◌∙◌, subst, sym, arith}
+use Rattle.std.proofs.Common.{ℕ, [], ◌∷◌, ◌++◌, List, map, Option, Some, Err, ap, ◌∙◌, subst, sym, arith}
 use Rattle.um_model.specs.AnswerValues.{NodeValue, plain_node}
-use Rattle.um_model.specs.declared.tree.Node.{Node}
+use Rattle.um_tree.specs.Growths.{GrowthValue}
 use Rattle.um_tree.proofs.Lists.{length_map, map_push}
-use Rattle.um_tree.proofs.Telling.{start_telling, step_told, never_none, end_told}
-use Rattle.um_tree.proofs.told.told.Goals as goal
+use Rattle.um_tree.proofs.Telling.{IsTelling, start_telling, step_told, never_none, end_told}
+use Rattle.um_tree.proofs.growing.Growth.into_tree.Goals as goal
 
 pub loop-place-init : goal.loop-place-init
-loop-place-init c = rw c.new-tree.ensures (start_telling _ c.args.nexts.now c.requires)
+loop-place-init c =
+    let nodes = map plain_node c.self.inside.nodes.items in
+    let g : GrowthValue = record { origins = c.self.inside.origins.items; nodes = nodes } in
+    let started = start_telling g c.self.inside.nexts.items c.self.invariant in
+    let linked = subst (λ (links : List (Option ℕ)). IsTelling g links nodes [] (Some 0) 0) (sym c.as_slice-nexts.ensures) started in
+    rw c.new-tree.ensures (subst (λ (x : GrowthValue). IsTelling x c.as_slice-nexts.result.now nodes [] (Some 0) 0) c.self.view_is linked)
 
 pub unreachable-requires : goal.unreachable-requires
 unreachable-requires c = never_none _ _ _ _ _ _ c.loop-place-test.true c.in_default.is c.loop-place.invariant
