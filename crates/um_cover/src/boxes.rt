@@ -3,7 +3,7 @@
 ghost use Rattle.std.specs.Prelude.{◌≡◌, ◌<◌, length, IfOk};
 ghost use Rattle.um_model.specs.Boxes.{root};
 ghost use Rattle.um_cover.specs.Sites.{way, box_at, box_along};
-ghost use Rattle.um_cover.specs.Descents.{SplitsFit};
+ghost use Rattle.um_cover.specs.Descents.{SplitsFit, FitAlong};
 
 use std::alloc::Global;
 use um_box::NodeBox;
@@ -22,9 +22,10 @@ pub fn box_of<'d>(
     requires fits { SplitsFit deck.now growth.now }
     ensures { IfOk result (λ b. b ≡ record { deck = deck.now; limits = box_at deck.now growth.now id }) }
 {
+    growth.known();
     let steps = way_up(alloc, growth, id)?;
     let mut node = NodeBox::root(alloc, deck)?;
-    go_down(growth, &mut node, id, steps.as_slice());
+    go_down(&mut node, steps.as_slice());
     Ok(node)
 }
 
@@ -43,16 +44,12 @@ fn way_up(alloc: Global, growth: &Growth, id: u32) -> Result<List<Origin>, Memor
     Ok(steps)
 }
 
-/// Cuts the root's box along the way down to the node.
-fn go_down(growth: &Growth, node: &mut NodeBox<'_>, id: u32, steps: &[Origin])
-    requires fits { SplitsFit node.old.deck growth.now }
-    requires inside { id < length growth.now.nodes }
-    requires way { steps.now ≡ way growth.now id }
+/// Cuts the root's box along the steps, the last of which leads down from the root.
+fn go_down(node: &mut NodeBox<'_>, steps: &[Origin])
+    requires fits { FitAlong node.old.deck steps.now }
     requires root { node.old.limits ≡ root node.old.deck }
-    ensures { node.new ≡ record { deck = node.old.deck; limits = box_at node.old.deck growth.now id } }
+    ensures { node.new ≡ record { deck = node.old.deck; limits = box_along node.old.deck steps.now } }
 {
-    growth.known();
-    let _ = id;
     let mut left = steps.len();
     'down: while left > 0 {
         left -= 1;
