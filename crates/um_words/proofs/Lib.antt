@@ -5,3 +5,5 @@ pub mod Reading
 pub mod CheckParse
 pub mod PrintParse
 pub mod SolveParse
+pub mod SolveLines
+pub mod Ranges

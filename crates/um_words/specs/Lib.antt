@@ -3,6 +3,8 @@ pub mod Faults
 pub mod Values
 pub mod CheckWords
 pub mod SolveWords
+pub mod WholeLines
 pub mod PrintWords
 pub mod ClapCommands
 pub mod Commands
+pub mod Ranges

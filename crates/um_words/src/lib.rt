@@ -14,6 +14,7 @@ mod check;
 mod commands;
 mod files;
 mod job;
+pub mod laws;
 mod print;
 mod solve;
 mod values;
