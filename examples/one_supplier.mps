@@ -1,0 +1,21 @@
+* Four tons are bought from NEAR, in a lot of two tons or more, or from FAR, but not from both.
+NAME SUPPLIER
+ROWS
+ N COST
+ G NEED
+COLUMNS
+ NEAR COST 3
+ NEAR NEED 1
+ FAR COST 2
+ FAR NEED 1
+RHS
+ RHS NEED 4
+BOUNDS
+ LO BND NEAR 2
+ SC BND NEAR 5
+ UP BND FAR 3
+SOS
+ S1 SOURCE
+ NEAR 1
+ FAR 2
+ENDATA
