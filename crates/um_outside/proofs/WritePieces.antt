@@ -2,7 +2,7 @@
 use Rattle.std.proofs.Common.{◌≡◌, ℕ, ◌+◌, List, [], ◌∷◌, take, drop, Option, Some, None, option_map, IfSome, IsSomeAnd, arith, ap, ◌∙◌, subst}
 use Rattle.std.proofs.Math.Seq.{take-add}
 use Rattle.um_outside.specs.Scenes.{Scene, Files, Mode, Writing, to_create}
-use Rattle.um_outside.specs.Desks.{Created, Took, WentWell, ChangesOnly, ChangesWritten, ClosedWell, Asks}
+use Rattle.um_outside.specs.Desks.{Created, FileTook, WentWell, ChangesOnly, ChangesWritten, ClosedWell, Asks}
 use Rattle.um_outside.proofs.Pieces.{set_then_added, is_some_of}
 
 -- The file of this name is open, and these bytes of it were put.
@@ -28,7 +28,7 @@ pub changes_on : (name bytes : List ℕ) (s t : Scene) (after : Option Files) �
 changes_on name bytes s t after a b =
     changes_more name s.holds t.holds after a.holds (subst (λ (m : Mode). ChangesWritten m t.holds after) a.mode b)
 
-pub written_more : (name bytes : List ℕ) (at n : ℕ) (s t u : Scene) → WrittenSoFar name (take at bytes) s t → Took (take n (drop at bytes)) t u → WrittenSoFar name (take (at + n) bytes) s u
+pub written_more : (name bytes : List ℕ) (at n : ℕ) (s t u : Scene) → WrittenSoFar name (take at bytes) s t → FileTook (take n (drop at bytes)) t u → WrittenSoFar name (take (at + n) bytes) s u
 written_more name bytes at n s t u a b = record {
   well = record { faults = omega (arith, a.well.faults, b.well.faults); stopped = b.well.stopped ∙ a.well.stopped };
   mode = b.mode ∙ a.mode;

@@ -71,8 +71,8 @@ pub record NotOpened (name : List ℕ) (s t : Scene) : Type 0 where
   pub holds : t.holds ≡ s.holds
   pub asked : Asks (to_open name ∷ []) s.asked t.asked
 
-abbrev pub Opens : List ℕ → Scene → {T : Type 0} → Result T Failed → Scene → Type 0
-Opens name s r t = MatchResult r (λ _. Opened name s t) (λ _. NotOpened name s t)
+abbrev pub OpensFile : List ℕ → Scene → {T : Type 0} → Result T Failed → Scene → Type 0
+OpensFile name s r t = MatchResult r (λ _. Opened name s t) (λ _. NotOpened name s t)
 
 -- These bytes were given. They go on in the file; where there are none, the file is at its end.
 pub record Gave (bytes : List ℕ) (s t : Scene) : Type 0 where
@@ -85,8 +85,8 @@ pub record Gave (bytes : List ℕ) (s t : Scene) : Type 0 where
   pub holds : t.holds ≡ s.holds
   pub asked : t.asked ≡ s.asked
 
-abbrev pub Reads : List ℕ → Scene → Result ℕ Failed → Scene → Type 0
-Reads into s r t = MatchResult r (λ n. (n ≤ length into) × Gave (take n into) s t) (λ _. FailedStill s t)
+abbrev pub ReadsFile : List ℕ → Scene → Result ℕ Failed → Scene → Type 0
+ReadsFile into s r t = MatchResult r (λ n. (n ≤ length into) × Gave (take n into) s t) (λ _. FailedStill s t)
 
 -- A file was made, or made empty.
 pub record Created (name : List ℕ) (s t : Scene) : Type 0 where
@@ -107,11 +107,11 @@ pub record NotCreated (name : List ℕ) (s t : Scene) : Type 0 where
   pub holds : ChangesOnly name s.holds t.holds
   pub asked : Asks (to_create name ∷ []) s.asked t.asked
 
-abbrev pub Creates : List ℕ → Scene → {T : Type 0} → Result T Failed → Scene → Type 0
-Creates name s r t = MatchResult r (λ _. Created name s t) (λ _. NotCreated name s t)
+abbrev pub CreatesFile : List ℕ → Scene → {T : Type 0} → Result T Failed → Scene → Type 0
+CreatesFile name s r t = MatchResult r (λ _. Created name s t) (λ _. NotCreated name s t)
 
 -- These bytes were taken.
-pub record Took (bytes : List ℕ) (s t : Scene) : Type 0 where
+pub record FileTook (bytes : List ℕ) (s t : Scene) : Type 0 where
   pub well : WentWell s t
   pub mode : t.mode ≡ s.mode
   pub given : t.given ≡ s.given
@@ -120,7 +120,7 @@ pub record Took (bytes : List ℕ) (s t : Scene) : Type 0 where
   pub asked : t.asked ≡ s.asked
 
 -- No byte was taken; the file has a front of what was put.
-pub record NotTaken (s t : Scene) : Type 0 where
+pub record FileTookNone (s t : Scene) : Type 0 where
   pub fault : Faulted s t
   pub mode : t.mode ≡ s.mode
   pub given : t.given ≡ s.given
@@ -129,8 +129,8 @@ pub record NotTaken (s t : Scene) : Type 0 where
   pub front : PutAndFile s t (λ put file. IsFront file put)
   pub asked : t.asked ≡ s.asked
 
-abbrev pub Writes : List ℕ → Scene → Result ℕ Failed → Scene → Type 0
-Writes from s r t = MatchResult r (λ n. (1 ≤ n) × (n ≤ length from) × Took (take n from) s t) (λ _. NotTaken s t)
+abbrev pub WritesFile : List ℕ → Scene → Result ℕ Failed → Scene → Type 0
+WritesFile from s r t = MatchResult r (λ n. (1 ≤ n) × (n ≤ length from) × FileTook (take n from) s t) (λ _. FileTookNone s t)
 
 -- The file was closed, well or not.
 pub record Closed (s t : Scene) : Type 0 where
@@ -151,5 +151,5 @@ pub record ClosedBadly (s t : Scene) : Type 0 where
   pub fault : Faulted s t
   pub closed : Closed s t
 
-abbrev pub Closes : Scene → {T : Type 0} → Result T Failed → Scene → Type 0
-Closes s r t = MatchResult r (λ _. ClosedWell s t) (λ _. ClosedBadly s t)
+abbrev pub ClosesFile : Scene → {T : Type 0} → Result T Failed → Scene → Type 0
+ClosesFile s r t = MatchResult r (λ _. ClosedWell s t) (λ _. ClosedBadly s t)

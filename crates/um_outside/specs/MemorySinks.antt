@@ -20,8 +20,8 @@ abbrev pub told_of : MemorySink → SinkScene
 told_of sink = record { held = Some sink.held.items; faults = cond sink.stopped 1 0; stopped = sink.stopped }
 
 -- Whether the next write is one that was told to fail.
-abbrev pub fails_next : MemorySink → Bool
-fails_next sink = is_among (next_number sink.calls.made) sink.calls.failing.items
+abbrev pub write_fails_next : MemorySink → Bool
+write_fails_next sink = is_among (next_number sink.calls.made) sink.calls.failing.items
 
 -- A write counts itself and leaves what was set.
 pub record WriteMade (old new : SinkState) : Type 0 where

@@ -2,7 +2,7 @@
 
 ghost use Rattle.std.specs.Prelude.{◌≡◌, ◌<◌, ◌≤◌, ◌-◌, ◌+◌, ◌||◌, Some, None, false, take, ◌++◌, length, min, max, nat_eq, is_err, is_none, slice_get, option_copied, option_map, option_and_then, OnOk, OnErr, IfOk, IfSome};
 ghost use Rattle.um_outside.specs.Scenes.{Idle, IsReading, IsWriting, IsOpen};
-ghost use Rattle.um_outside.specs.Desks.{Opens, Reads, Creates, Writes, Closes};
+ghost use Rattle.um_outside.specs.Desks.{OpensFile, ReadsFile, CreatesFile, WritesFile, ClosesFile};
 ghost use Rattle.um_outside.specs.Stores.{greatest_capacity, capacity_of, place_of, files_in, room_in};
 ghost use Rattle.um_outside.specs.OpenFiles.{IsBusy, IsOpenFile};
 ghost use Rattle.um_outside.specs.declared.stored.Stored.{Stored};
@@ -257,7 +257,7 @@ impl Desk for MemoryDesk {
     fn open_file(&mut self, name: &str) -> Result<(), Failed>
         requires idle { (scene_of self.old).mode ≡ Idle }
         requires going { self.old.stopped ≡ false }
-        ensures scene { Opens name.now (scene_of self.old) result (scene_of self.new) }
+        ensures scene { OpensFile name.now (scene_of self.old) result (scene_of self.new) }
         ensures failed { is_err result ≡ (fails_next self.old || is_none (file_in self.old name.now)) }
         ensures made { CallMade self.old self.new }
         ensures left { room_left self.new ≡ room_left self.old }
@@ -282,7 +282,7 @@ impl Desk for MemoryDesk {
         requires reading { IsReading (scene_of self.old).mode }
         requires going { self.old.stopped ≡ false }
         requires room { 0 < length into.old }
-        ensures scene { Reads into.new (scene_of self.old) result (scene_of self.new) }
+        ensures scene { ReadsFile into.new (scene_of self.old) result (scene_of self.new) }
         ensures failed { is_err result ≡ fails_next self.old }
         ensures count { IfOk result (λ n. n ≡ min (min (bytes_left self.old) (length into.old)) self.old.piece) }
         ensures made { CallMade self.old self.new }
@@ -300,7 +300,7 @@ impl Desk for MemoryDesk {
     fn create_file(&mut self, name: &str) -> Result<(), Failed>
         requires idle { (scene_of self.old).mode ≡ Idle }
         requires going { self.old.stopped ≡ false }
-        ensures scene { Creates name.now (scene_of self.old) result (scene_of self.new) }
+        ensures scene { CreatesFile name.now (scene_of self.old) result (scene_of self.new) }
         ensures failed { is_err result ≡ (fails_next self.old || is_none (room_for self.old name.now)) }
         ensures made { CallMade self.old self.new }
         ensures whole_room { OnOk result (room_for self.old name.now ≡ Some (room_left self.new)) }
@@ -332,7 +332,7 @@ impl Desk for MemoryDesk {
         requires writing { IsWriting (scene_of self.old).mode }
         requires going { self.old.stopped ≡ false }
         requires some { 0 < length from.now }
-        ensures scene { Writes from.now (scene_of self.old) result (scene_of self.new) }
+        ensures scene { WritesFile from.now (scene_of self.old) result (scene_of self.new) }
         ensures failed { is_err result ≡ (fails_next self.old || nat_eq (room_left self.old) 0) }
         ensures count { IfOk result (λ n. n ≡ min (min (length from.now) self.old.piece) (room_left self.old)) }
         ensures made { CallMade self.old self.new }
@@ -353,7 +353,7 @@ impl Desk for MemoryDesk {
     fn close_file(&mut self) -> Result<(), Failed>
         requires open { IsOpen (scene_of self.old).mode }
         requires going { self.old.stopped ≡ false }
-        ensures scene { Closes (scene_of self.old) result (scene_of self.new) }
+        ensures scene { ClosesFile (scene_of self.old) result (scene_of self.new) }
         ensures failed { is_err result ≡ fails_next self.old }
         ensures made { CallMade self.old self.new }
         ensures left { room_left self.new ≡ room_left self.old }

@@ -63,7 +63,7 @@ impl MemorySink {
 }
 
 impl Sink for MemorySink {
-    ghost use Rattle.um_outside.specs.MemorySinks.{told_of, state_of, WriteMade, fails_next};
+    ghost use Rattle.um_outside.specs.MemorySinks.{told_of, state_of, WriteMade, write_fails_next};
     ghost use Rattle.um_outside.specs.Sinks.{Writes};
 
     ghost told = { told_of };
@@ -72,7 +72,7 @@ impl Sink for MemorySink {
         requires going { self.old.stopped ≡ false }
         requires some { 0 < length from.now }
         ensures told { Writes from.now (told_of self.old) result (told_of self.new) }
-        ensures failed { is_err result ≡ (fails_next self.old || nat_le self.old.room (length self.old.held.items)) }
+        ensures failed { is_err result ≡ (write_fails_next self.old || nat_le self.old.room (length self.old.held.items)) }
         ensures count { IfOk result (λ n. n ≡ min (min (length from.now) self.old.piece) (self.old.room - length self.old.held.items)) }
         ensures made { WriteMade (state_of self.old) (state_of self.new) }
     {
