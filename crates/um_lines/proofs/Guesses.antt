@@ -59,8 +59,8 @@ pub record IsShared (den : ℕ) (sums : ℕ → ℤ) (i : ℕ) (shared : ℕ) : 
 pub first_shared : (den : ℕ) (sums : ℕ → ℤ) → 1 ≤ den → IsShared den sums 0 den
 first_shared den sums up = record { positive = up; divides = dvd_refl den; greatest = λ d h k. h }
 
-pub shared_step : (den : ℕ) (sums : ℕ → ℤ) (i shared next : ℕ) (sum : ℤ) → IsShared den sums i shared → sum ≡ sums i → 1 ≤ next → next ∣ shared → ((d : ℕ) → d ∣ shared → d ∣ unsigned_abs sum → d ∣ next) → IsShared den sums (i + 1) next
-shared_step den sums i shared next sum h same up divides most =
+pub shared_sum_step : (den : ℕ) (sums : ℕ → ℤ) (i shared next : ℕ) (sum : ℤ) → IsShared den sums i shared → sum ≡ sums i → 1 ≤ next → next ∣ shared → ((d : ℕ) → d ∣ shared → d ∣ unsigned_abs sum → d ∣ next) → IsShared den sums (i + 1) next
+shared_sum_step den sums i shared next sum h same up divides most =
     record {
       positive = up;
       divides = dvd_trans next divides h.divides;

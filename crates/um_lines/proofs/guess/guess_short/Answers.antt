@@ -3,7 +3,7 @@ use Rattle.std.specs.Int.{w64}
 use Rattle.std.proofs.lemmas.Int.{to_z-of_z, ints}
 use Rattle.um_lines.specs.Lines.{whole_at}
 use Rattle.um_lines.specs.Turns.{wrapped_at}
-use Rattle.um_lines.proofs.Guesses.{first_shared, shared_step, shared_of_all}
+use Rattle.um_lines.proofs.Guesses.{first_shared, shared_sum_step, shared_of_all}
 use Rattle.um_lines.proofs.guess.guess_short.Goals as goal
 
 pub loop-j-init : goal.loop-j-init
@@ -18,7 +18,7 @@ loop-j-preserved c =
     let g3 : FitsSigned w64 c.wrapped_sum-sum.result = search rules in
     let e : c.wrapped_sum-sum.result ≡ wrapped_at c.args.factors.now.own c.args.factors.now.other c.args.own.now c.args.other.now c.loop-j.j = simp to_z-of_z at c.wrapped_sum-sum.ensures in
     let most = simp to_z-of_z at c.next_guess-guess.ensures.greatest in
-    shared_step c.args.den (wrapped_at c.args.factors.now.own c.args.factors.now.other c.args.own.now c.args.other.now) c.loop-j.j c.loop-j.guess.shared c.next_guess-guess.result.shared c.wrapped_sum-sum.result
+    shared_sum_step c.args.den (wrapped_at c.args.factors.now.own c.args.factors.now.other c.args.own.now c.args.other.now) c.loop-j.j c.loop-j.guess.shared c.next_guess-guess.result.shared c.wrapped_sum-sum.result
     c.loop-j.invariant e c.next_guess-guess.ensures.positive c.next_guess-guess.ensures.divides most
 
 pub returns-then-is_sure-clause-greatest : goal.returns-then-is_sure-clause-greatest
