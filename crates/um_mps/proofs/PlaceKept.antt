@@ -12,7 +12,7 @@ use Rattle.um_decktext.specs.declared.section.Section.TheVariants as section
 use Rattle.um_decktext.specs.Sections.{is_section, rank, section_called}
 use Rattle.um_decktext.specs.DeckLines.{data_now, section_now}
 use Rattle.um_decktext.specs.Places.{Place, place_of}
-use Rattle.um_mps.specs.Behind.{GoesOn, behind_data, behind_heading, behind_section}
+use Rattle.um_mps.specs.Behind.{HasItsColumn, behind_data, behind_heading, behind_section}
 use Rattle.um_decktext.specs.LinesSay.{data_line, heading_line, heading_says, is_in_order}
 use Rattle.um_mps.specs.Reading.{IsPlace, is_before_sets}
 use Rattle.um_mps.proofs.SaysFine.{data_plain, heading_plain}
@@ -86,7 +86,7 @@ column_in now ws p old some = by (is_section section.Columns now) refl
     by false e = old (ap is_some (sym (column_stays now ws p e)) ∙ some)
 
 pub data_placed : (ws : Words) (place next : Place) (maker more : Said) → IsPlace place maker → TellsAll (data_line place.section place ws) maker (Ok tt) more
-    → next ≡ behind_data place.section ws place → GoesOn next more → IsPlace next more
+    → next ≡ behind_data place.section ws place → HasItsColumn next more → IsPlace next more
 data_placed ws place next maker more k told moved goes =
     let here : next.section ≡ place.section = ap (λ (q : Place). q.section) moved ∙ section_stays place.section ws place in
     record {

@@ -62,5 +62,5 @@ behind (Heading ws) p = behind_heading ws p
 behind (Data ws) p = behind_data p.section ws p
 
 -- where a line may go on with a column, a maker has one
-abbrev pub GoesOn : Place → Said → Type 0
-GoesOn p said = is_some p.column ≡ true → 0 < length said.columns
+abbrev pub HasItsColumn : Place → Said → Type 0
+HasItsColumn p said = is_some p.column ≡ true → 0 < length said.columns

@@ -147,8 +147,8 @@ pub record Decks : Type 0 where
 abbrev pub behind_rows : List (List ℕ) → List ℕ
 behind_rows lines = text (codes "ROWS" ∷ codes " N C" ∷ codes " L R" ∷ codes " N F" ∷ codes "COLUMNS" ∷ lines)
 
-abbrev pub begun : List (List ℕ) → List ℕ
-begun lines = behind_rows (codes " x R 1" ∷ lines)
+abbrev pub behind_entry : List (List ℕ) → List ℕ
+behind_entry lines = behind_rows (codes " x R 1" ∷ lines)
 
 pub record MoreFaults0 : Type 0 where
   pub before : text_fault (text (codes " x" ∷ codes "ROWS" ∷ [])) ≡ Some (1, SectionOrder)
@@ -157,18 +157,18 @@ pub record MoreFaults0 : Type 0 where
   pub marker_five : text_fault (behind_rows (codes " M 'MARKER' 'INTORG' C 1" ∷ codes "ENDATA" ∷ [])) ≡ Some (6, BadNumber)
   pub unclosed_junk : text_fault (behind_rows (codes " M 'MARKER' 'INTORG'" ∷ codes " x C 1" ∷ codes "JUNK" ∷ [])) ≡ Some (8, UnknownSection)
   pub first_pair : text_fault (behind_rows (codes " x Z 1 R 1e" ∷ codes "ENDATA" ∷ [])) ≡ Some (6, BadNumber)
-  pub range_words : text_fault (begun (codes "RANGES" ∷ codes " A R 1" ∷ codes " B R 1 Z 2 Z" ∷ codes "ENDATA" ∷ [])) ≡ Some (9, BadWords)
-  pub fr_set : text_fault (begun (codes "BOUNDS" ∷ codes " FR x 5" ∷ codes "ENDATA" ∷ [])) ≡ Some (8, UnknownColumn)
+  pub range_words : text_fault (behind_entry (codes "RANGES" ∷ codes " A R 1" ∷ codes " B R 1 Z 2 Z" ∷ codes "ENDATA" ∷ [])) ≡ Some (9, BadWords)
+  pub fr_set : text_fault (behind_entry (codes "BOUNDS" ∷ codes " FR x 5" ∷ codes "ENDATA" ∷ [])) ≡ Some (8, UnknownColumn)
   pub in_name : text_fault (text (codes "NAME T" ∷ codes " x" ∷ codes "ENDATA" ∷ [])) ≡ Some (2, SectionOrder)
   pub again : text_fault (text (codes "ROWS" ∷ codes " N C" ∷ codes "ROWS" ∷ [])) ≡ Some (3, SectionOrder)
   pub sense_words : text_fault (text (codes "OBJSENSE" ∷ codes " MAX MIN" ∷ codes "ROWS" ∷ [])) ≡ Some (2, BadWords)
   pub inside : text_fault (behind_rows (codes " M 'MARKER' 'INTORG'" ∷ codes " x C 1" ∷ codes " M 'MARKER' 'INTORG'" ∷ codes "ENDATA" ∷ [])) ≡ Some (8, Marker)
   pub column_again : text_fault (behind_rows (codes " x C 1" ∷ codes " y C 1" ∷ codes " x R 1" ∷ codes "ENDATA" ∷ [])) ≡ Some (8, TwiceColumn)
   pub unknown_row : text_fault (behind_rows (codes " x Z 1 R 1" ∷ codes "ENDATA" ∷ [])) ≡ Some (6, UnknownRow)
-  pub kind_other_set : text_fault (begun (codes "BOUNDS" ∷ codes " UP A x 1" ∷ codes " ZZ B x" ∷ codes "ENDATA" ∷ [])) ≡ Some (9, UnknownKind)
-  pub fine_infinite : text_fault (begun (codes "BOUNDS" ∷ codes " UP x 1e-4" ∷ codes "ENDATA" ∷ [])) ≡ Some (8, TooFine)
-  pub sc_on_integer : text_fault (begun (codes "BOUNDS" ∷ codes " UI x 1" ∷ codes " SC x 1" ∷ codes "ENDATA" ∷ [])) ≡ Some (9, SemiInteger)
-  pub range_skipped : text_fault (begun (codes "RHS" ∷ codes " F 1e-7" ∷ codes "RANGES" ∷ codes " C 1e-7" ∷ codes "ENDATA" ∷ [])) ≡ None
+  pub kind_other_set : text_fault (behind_entry (codes "BOUNDS" ∷ codes " UP A x 1" ∷ codes " ZZ B x" ∷ codes "ENDATA" ∷ [])) ≡ Some (9, UnknownKind)
+  pub fine_infinite : text_fault (behind_entry (codes "BOUNDS" ∷ codes " UP x 1e-4" ∷ codes "ENDATA" ∷ [])) ≡ Some (8, TooFine)
+  pub sc_on_integer : text_fault (behind_entry (codes "BOUNDS" ∷ codes " UI x 1" ∷ codes " SC x 1" ∷ codes "ENDATA" ∷ [])) ≡ Some (9, SemiInteger)
+  pub range_skipped : text_fault (behind_entry (codes "RHS" ∷ codes " F 1e-7" ∷ codes "RANGES" ∷ codes " C 1e-7" ∷ codes "ENDATA" ∷ [])) ≡ None
   pub rows_missing : text_fault (text (codes "COLUMNS" ∷ codes "ENDATA" ∷ [])) ≡ Some (1, SectionOrder)
   pub junk : text_fault (text (codes "ROWS" ∷ codes " N C" ∷ codes "JUNK" ∷ [])) ≡ Some (3, UnknownSection)
   pub star : text_fault (text (codes "* c" ∷ codes "ROWS" ∷ codes "" ∷ codes " N C" ∷ codes " *x" ∷ [])) ≡ Some (5, BadWords)
@@ -176,26 +176,26 @@ pub record MoreFaults0 : Type 0 where
 
 pub record MoreFaults1 : Type 0 where
   pub column_marker : text_fault (behind_rows (codes " x C 1" ∷ codes " M 'MARKER' 'INTORG'" ∷ codes " x R 1" ∷ codes "ENDATA" ∷ [])) ≡ Some (8, TwiceColumn)
-  pub rhs_twice : text_fault (begun (codes "RHS" ∷ codes " A F 0" ∷ codes " B Z 1x" ∷ codes " A R 1 F 0" ∷ codes "ENDATA" ∷ [])) ≡ Some (10, TwiceEntry)
-  pub words_other_set : text_fault (begun (codes "BOUNDS" ∷ codes " UP A x 1" ∷ codes " UP B" ∷ codes "ENDATA" ∷ [])) ≡ Some (9, BadWords)
-  pub fx_large : text_fault (begun (codes "BOUNDS" ∷ codes " FX x 1e20" ∷ codes "ENDATA" ∷ [])) ≡ Some (8, TooLarge)
-  pub bv_up : text_fault (begun (codes "BOUNDS" ∷ codes " BV x" ∷ codes " UP x -1" ∷ codes "ENDATA" ∷ [])) ≡ Some (10, CrossedBounds)
-  pub set_twice : text_fault (begun (codes "SOS" ∷ codes " S1 A" ∷ codes " S2 A F" ∷ codes "ENDATA" ∷ [])) ≡ Some (9, TwiceSet)
-  pub arc_row : text_fault (begun (codes "ARCS" ∷ codes " Q F x 0" ∷ codes "ENDATA" ∷ [])) ≡ Some (8, ArcRow)
+  pub rhs_twice : text_fault (behind_entry (codes "RHS" ∷ codes " A F 0" ∷ codes " B Z 1x" ∷ codes " A R 1 F 0" ∷ codes "ENDATA" ∷ [])) ≡ Some (10, TwiceEntry)
+  pub words_other_set : text_fault (behind_entry (codes "BOUNDS" ∷ codes " UP A x 1" ∷ codes " UP B" ∷ codes "ENDATA" ∷ [])) ≡ Some (9, BadWords)
+  pub fx_large : text_fault (behind_entry (codes "BOUNDS" ∷ codes " FX x 1e20" ∷ codes "ENDATA" ∷ [])) ≡ Some (8, TooLarge)
+  pub bv_up : text_fault (behind_entry (codes "BOUNDS" ∷ codes " BV x" ∷ codes " UP x -1" ∷ codes "ENDATA" ∷ [])) ≡ Some (10, CrossedBounds)
+  pub set_twice : text_fault (behind_entry (codes "SOS" ∷ codes " S1 A" ∷ codes " S2 A F" ∷ codes "ENDATA" ∷ [])) ≡ Some (9, TwiceSet)
+  pub arc_row : text_fault (behind_entry (codes "ARCS" ∷ codes " Q F x 0" ∷ codes "ENDATA" ∷ [])) ≡ Some (8, ArcRow)
   pub columns_missing : text_fault (text (codes "ROWS" ∷ codes " N C" ∷ codes "RHS" ∷ codes "ENDATA" ∷ [])) ≡ Some (3, SectionOrder)
   pub sense_head : text_fault (text (codes "OBJSENSE MOST" ∷ codes "ROWS" ∷ [])) ≡ Some (1, UnknownKind)
   pub marker_words : text_fault (behind_rows (codes " M 'MARKER'" ∷ codes "ENDATA" ∷ [])) ≡ Some (6, BadWords)
   pub unclosed : text_fault (behind_rows (codes " M 'MARKER' 'INTORG'" ∷ codes " x C 1" ∷ codes "BOUNDS" ∷ codes " UP x 1" ∷ codes "ENDATA" ∷ [])) ≡ Some (8, Marker)
   pub zero_twice : text_fault (behind_rows (codes " x F 0" ∷ codes " x R 1 F 0" ∷ codes "ENDATA" ∷ [])) ≡ Some (7, TwiceEntry)
-  pub rhs_none : text_fault (begun (codes "RHS" ∷ codes " R 1" ∷ codes " A Z 1" ∷ codes " C 1 R 2" ∷ codes "ENDATA" ∷ [])) ≡ Some (10, TwiceEntry)
-  pub kind_words : text_fault (begun (codes "BOUNDS" ∷ codes " ZZ B x 1 1" ∷ codes "ENDATA" ∷ [])) ≡ Some (8, BadWords)
-  pub up_low : text_fault (begun (codes "BOUNDS" ∷ codes " UP x -1e20" ∷ codes "ENDATA" ∷ [])) ≡ Some (8, TooLarge)
-  pub side_large : text_fault (begun (codes "RHS" ∷ codes " R 1e16" ∷ codes "ENDATA" ∷ [])) ≡ Some (9, TooLarge)
+  pub rhs_none : text_fault (behind_entry (codes "RHS" ∷ codes " R 1" ∷ codes " A Z 1" ∷ codes " C 1 R 2" ∷ codes "ENDATA" ∷ [])) ≡ Some (10, TwiceEntry)
+  pub kind_words : text_fault (behind_entry (codes "BOUNDS" ∷ codes " ZZ B x 1 1" ∷ codes "ENDATA" ∷ [])) ≡ Some (8, BadWords)
+  pub up_low : text_fault (behind_entry (codes "BOUNDS" ∷ codes " UP x -1e20" ∷ codes "ENDATA" ∷ [])) ≡ Some (8, TooLarge)
+  pub side_large : text_fault (behind_entry (codes "RHS" ∷ codes " R 1e16" ∷ codes "ENDATA" ∷ [])) ≡ Some (9, TooLarge)
   pub columns_first : text_fault (text (codes " " ∷ codes "NAME A B C" ∷ codes "OBJSENSE MAX MOST" ∷ codes " MIN" ∷ codes " MAXIMIZE" ∷ codes "ROWS X" ∷ codes " L R" ∷ codes "COLUMNS" ∷ [])) ≡ Some (8, NoObjective)
-  pub end_words : text_fault (begun (codes "ENDATA NAME" ∷ codes "JUNK" ∷ [])) ≡ None
-  pub range_fine : text_fault (begun (codes "RANGES" ∷ codes " R 1e-7" ∷ codes "ENDATA" ∷ [])) ≡ Some (9, TooFine)
-  pub semi_bare : text_fault (begun (codes "BOUNDS" ∷ codes " UP A x 1" ∷ codes " SC B" ∷ [])) ≡ Some (9, BadWords)
-  pub semi_other_set : text_fault (begun (codes "BOUNDS" ∷ codes " UP A x 1" ∷ codes " SC B z 1e" ∷ [])) ≡ Some (9, NoEnd)
+  pub end_words : text_fault (behind_entry (codes "ENDATA NAME" ∷ codes "JUNK" ∷ [])) ≡ None
+  pub range_fine : text_fault (behind_entry (codes "RANGES" ∷ codes " R 1e-7" ∷ codes "ENDATA" ∷ [])) ≡ Some (9, TooFine)
+  pub semi_bare : text_fault (behind_entry (codes "BOUNDS" ∷ codes " UP A x 1" ∷ codes " SC B" ∷ [])) ≡ Some (9, BadWords)
+  pub semi_other_set : text_fault (behind_entry (codes "BOUNDS" ∷ codes " UP A x 1" ∷ codes " SC B z 1e" ∷ [])) ≡ Some (9, NoEnd)
 
 -- these lines behind two columns with bounds
 abbrev pub ended : List (List ℕ) → List ℕ

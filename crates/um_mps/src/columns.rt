@@ -8,7 +8,7 @@ ghost use Rattle.um_decktext.specs.LineWords.{is_marker, opens};
 ghost use Rattle.um_decktext.specs.LinesSay.{begun, column_line, entry_line, marker_line};
 ghost use Rattle.um_statements.specs.Statements.{Entry};
 ghost use Rattle.um_mps.specs.Pairs.{AreNumbers, pairs_of};
-ghost use Rattle.um_mps.specs.Behind.{behind_column, GoesOn};
+ghost use Rattle.um_mps.specs.Behind.{behind_column, HasItsColumn};
 
 use crate::pairs::{Pairs, Part, read_pairs, tell_pairs};
 use crate::place::Place;
@@ -48,7 +48,7 @@ fn marker_line(place: &mut Place<'_>, words: &Words<'_>) -> Result<(), Fault>
 
 /// Begins the column of a line, where the line before is of another.
 fn begin(maker: &mut DeckMaker, place: &Place<'_>, column: &[u8]) -> Result<(), Fault>
-    requires begun { GoesOn place.now maker.old }
+    requires begun { HasItsColumn place.now maker.old }
     ensures told { TellsAll (Ok (begun place.now column.now)) maker.old result maker.new }
     ensures some { OnOk result (0 < length maker.new.columns) }
 {
@@ -65,7 +65,7 @@ fn tell_column(
     column: &[u8],
     pairs: &Pairs<'_>,
 ) -> Result<(), Fault>
-    requires begun { GoesOn place.now maker.old }
+    requires begun { HasItsColumn place.now maker.old }
     requires numbers { AreNumbers pairs.now }
     ensures told { TellsAll (Ok (begun place.now column.now ++ map (λ p. Entry p.0 p.1) (pairs_of pairs.now))) maker.old result maker.new }
     ensures some { OnOk result (0 < length maker.new.columns) }
@@ -82,11 +82,11 @@ fn entry_line<'b>(
     place: &mut Place<'b>,
     words: &Words<'b>,
 ) -> Result<(), Fault>
-    requires begun { GoesOn place.old maker.old }
+    requires begun { HasItsColumn place.old maker.old }
     requires entry { is_marker words.now ≡ false }
     ensures told { TellsAll (entry_line place.old words.now) maker.old result maker.new }
     ensures place { OnOk result (place.new ≡ behind_column words.now place.old) }
-    ensures begun { OnOk result (GoesOn place.new maker.new) }
+    ensures begun { OnOk result (HasItsColumn place.new maker.new) }
 {
     let column = word(words, 0);
     let pairs = read_pairs(words, 1)?;
@@ -105,10 +105,10 @@ pub fn column_line<'b>(
     place: &mut Place<'b>,
     words: &Words<'b>,
 ) -> Result<(), Fault>
-    requires begun { GoesOn place.old maker.old }
+    requires begun { HasItsColumn place.old maker.old }
     ensures told { TellsAll (column_line place.old words.now) maker.old result maker.new }
     ensures place { OnOk result (place.new ≡ behind_column words.now place.old) }
-    ensures begun { OnOk result (GoesOn place.new maker.new) }
+    ensures begun { OnOk result (HasItsColumn place.new maker.new) }
 {
     if is_marker(words) {
         marker_line(place, words)

@@ -8,7 +8,7 @@ ghost use Rattle.um_statements.specs.Made.{deck_value};
 ghost use Rattle.um_statements.specs.DeckRules.{deck_fault};
 ghost use Rattle.um_decktext.specs.DeckLines.{Line, is_skipped, line_of};
 ghost use Rattle.um_decktext.specs.LinesSay.{data_line};
-ghost use Rattle.um_mps.specs.Behind.{behind_data, GoesOn};
+ghost use Rattle.um_mps.specs.Behind.{behind_data, HasItsColumn};
 ghost use Rattle.um_decktext.specs.DeckText.{DeckFault, DeckText};
 ghost use Rattle.um_mps.specs.Reading.{IsBehind, IsPlace, Reads};
 
@@ -49,7 +49,7 @@ fn data_line<'b>(
     requires may { IsPlace place.old maker.old }
     ensures told { TellsAll (data_line place.old.section place.old words.now) maker.old result maker.new }
     ensures place { OnOk result (place.new ≡ behind_data place.old.section words.now place.old) }
-    ensures begun { OnOk result (GoesOn place.new maker.new) }
+    ensures begun { OnOk result (HasItsColumn place.new maker.new) }
 {
     match place.section {
         Some(Section::Objsense) => sense_line(maker, words),

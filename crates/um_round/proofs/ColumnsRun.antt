@@ -144,12 +144,12 @@ each_at P [] i h k = absurd (omega arith)
 each_at P (n ∷ ns) zero h k = k.0
 each_at P (n ∷ ns) (suc i) h k = each_at P ns i (omega (arith, h)) k.1
 
-pub place_is : (ns : List Name) (i : ℕ) → i < length ns → Apart (λ n. n) ns → position_or_len (bytes_eq (slice_index_or ns i [])) ns ≡ i
-place_is [] i h apart = absurd (omega arith)
-place_is (n ∷ ns) zero h apart = rw (same_name n) refl
-place_is (n ∷ ns) (suc i) h apart =
+pub place_of_name : (ns : List Name) (i : ℕ) → i < length ns → Apart (λ n. n) ns → position_or_len (bytes_eq (slice_index_or ns i [])) ns ≡ i
+place_of_name [] i h apart = absurd (omega arith)
+place_of_name (n ∷ ns) zero h apart = rw (same_name n) refl
+place_of_name (n ∷ ns) (suc i) h apart =
     let other = other_way n (slice_index_or ns i []) (each_at (λ y. bytes_eq n y ≡ false) ns i (omega (arith, h)) apart.0) in
-    place_on (bytes_eq (slice_index_or ns i [])) n ns other ∙ ap suc (place_is ns i (omega (arith, h)) apart.1)
+    place_on (bytes_eq (slice_index_or ns i [])) n ns other ∙ ap suc (place_of_name ns i (omega (arith, h)) apart.1)
 
 names_bare : (rows : List Row) → map (λ (r : RowSaid). r.name) (map row_bare rows) ≡ map (λ (r : Row). r.name) rows
 names_bare [] = refl
@@ -165,7 +165,7 @@ row_at d i h apart =
     let names = d.objective_name ∷ map (λ (r : Row). r.name) d.rows in
     let size = length-map d.rows (λ (r : Row). r.name) in
     ap (λ (ns : List Name). position (bytes_eq (row_name d.rows i)) (d.objective_name ∷ ns)) (names_bare d.rows)
-    ∙ position_at (bytes_eq (row_name d.rows i)) names (suc i) (place_is names (suc i) (omega (arith, h, size)) apart) (omega (arith, h, size))
+    ∙ position_at (bytes_eq (row_name d.rows i)) names (suc i) (place_of_name names (suc i) (omega (arith, h, size)) apart) (omega (arith, h, size))
 
 -- ---- the numbers of a column
 

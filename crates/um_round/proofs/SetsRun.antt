@@ -25,7 +25,7 @@ use Rattle.um_round.proofs.Numerals.{scaled_back, decimals_most}
 use Rattle.um_round.proofs.EachItem.{Each, Each-from}
 use Rattle.um_round.proofs.ColumnsTold.{Apart, Apart-from}
 use Rattle.um_round.proofs.RowsRun.{position_at, other_way}
-use Rattle.um_round.proofs.ColumnsRun.{place_is, last_has_push, change_last_push}
+use Rattle.um_round.proofs.ColumnsRun.{place_of_name, last_has_push, change_last_push}
 use Rattle.um_round.proofs.BoundsRun.{whole_if}
 
 -- ---- the place of a column
@@ -48,7 +48,7 @@ column_at d deck j h =
     let size = length-map d.columns (λ (c : ColumnValue). c.name) in
     let apart = names_apart d.columns (Apart-from (λ (c : ColumnValue). c.name) d.columns deck.column_names) in
     ap (position (bytes_eq (column_name d.columns j))) (names_known d d.columns)
-    ∙ position_at (bytes_eq (column_name d.columns j)) names j (place_is names j (omega (arith, h, size)) apart) (omega (arith, h, size))
+    ∙ position_at (bytes_eq (column_name d.columns j)) names j (place_of_name names j (omega (arith, h, size)) apart) (omega (arith, h, size))
 
 -- ---- one set
 
