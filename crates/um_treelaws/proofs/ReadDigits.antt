@@ -135,8 +135,8 @@ size_of true zero = refl
 size_of true (suc n) = refl
 size_of false n = refl
 
-value_back : (word : List ℕ) (z : ℤ) → whole_value word ≡ Some z → IsInRange z → word ≡ signed_decimal z
-value_back word z e h =
+value_rewritten : (word : List ℕ) (z : ℤ) → whole_value word ≡ Some z → IsInRange z → word ≡ signed_decimal z
+value_rewritten word z e h =
     elim (cases_Bool (is_zero word || is_positive word)) [
       | inl t ↦
           let some : Some (signed false (places word)) ≡ Some z = rw t at e in
@@ -156,11 +156,11 @@ value_back word z e h =
           ]
     ]
 
-some_back : (o : Option ℤ) (z : ℤ) → some_or BadNumber o ≡ Ok z → o ≡ Some z
-some_back None z e = absurd (let bad = e in cc)
-some_back (Some y) z e = let same : y ≡ z = cc in ap Some same
+some_rewritten : (o : Option ℤ) (z : ℤ) → some_or BadNumber o ≡ Ok z → o ≡ Some z
+some_rewritten None z e = absurd (let bad = e in cc)
+some_rewritten (Some y) z e = let same : y ≡ z = cc in ap Some same
 
 -- a numeral of a number in range is its numeral as it is written
-pub numeral_back : (word : List ℕ) (z : ℤ) → numeral word ≡ Ok z → IsInRange z → word ≡ signed_decimal z
+pub numeral_rewritten : (word : List ℕ) (z : ℤ) → numeral word ≡ Ok z → IsInRange z → word ≡ signed_decimal z
 unfolding numeral
-numeral_back word z e h = value_back word z (some_back (whole_value word) z e) h
+numeral_rewritten word z e h = value_rewritten word z (some_rewritten (whole_value word) z e) h

@@ -17,8 +17,8 @@ use Rattle.um_treetext.specs.declared.fault.TreeWord.TheVariants.{BadNumber, Too
 use Rattle.um_treetext.specs.Words.{numeral, whole_word, is_at_least, reduced, parts_word, fraction_said, fraction_or_none_said}
 use Rattle.um_treetext.specs.Writable.{IsWritableFraction}
 use Rattle.um_treelaws.proofs.ReadSteps.{steps, same_ok, keeps, keeps_last, same_bytes, SaysAs}
-use Rattle.um_treelaws.proofs.ReadDigits.{numeral_back}
-use Rattle.um_treelaws.proofs.ReadNumbers.{whole_back, least_back}
+use Rattle.um_treelaws.proofs.ReadDigits.{numeral_rewritten}
+use Rattle.um_treelaws.proofs.ReadNumbers.{whole_rewritten, least_rewritten}
 
 -- ---- the two sides of a byte
 
@@ -73,16 +73,16 @@ record IsLowest (num den : ℤ) (x : Rational) : Type 0 where
   num_same : x.num ≡ num
   den_same : pos x.den ≡ den
 
-reduced_back : (num den : ℤ) (x : Rational) → reduced num den ≡ Ok x → IsLowest num den x
+reduced_rewritten : (num den : ℤ) (x : Rational) → reduced num den ≡ Ok x → IsLowest num den x
 unfolding reduced
-reduced_back num den x e =
+reduced_rewritten num den x e =
     let low = not (is_at_least 2 den) in
     let wide = not (in_range num && in_range den) in
     let shared = not (nat_eq (gcd (unsigned_abs num) (unsigned_abs den)) 1) in
     let one = keeps low BadNumber ((wide, TooWide) ∷ (shared, BadNumber) ∷ []) (rational num den) x e in
     let two = keeps wide TooWide ((shared, BadNumber) ∷ []) (rational num den) x one.1 in
     let three = keeps_last shared BadNumber (rational num den) x two.1 in
-    let least : pos 2 ≤ℤ den = least_back 2 den (not-false (is_at_least 2 den) one.0) in
+    let least : pos 2 ≤ℤ den = least_rewritten 2 den (not-false (is_at_least 2 den) one.0) in
     let both = and_parts (in_range num) (in_range den) (not-false (in_range num && in_range den) two.0) in
     let above : IsInRange num = ltb-true (unsigned_abs num) (2 ^ 127) both.0 in
     let below : IsInRange den = ltb-true (unsigned_abs den) (2 ^ 127) both.1 in
@@ -108,16 +108,16 @@ den_above d den e h one = omega (arith, ints, e, h, one)
 den_below : (d : ℕ) (den : ℤ) → pos d ≡ den → IsInRange den → d < 2 ^ 127
 den_below d den e h = subst (λ (z : ℤ). unsigned_abs z < 2 ^ 127) (sym e) h
 
-parts_back : (word : List ℕ) (x : Rational) → list_any is_slash word ≡ true → parts_word word ≡ Ok x → (word ≡ fraction_word x) × IsWritableFraction x
+parts_rewritten : (word : List ℕ) (x : Rational) → list_any is_slash word ≡ true → parts_word word ≡ Ok x → (word ≡ fraction_word x) × IsWritableFraction x
 unfolding parts_word
-parts_back word x slash e =
+parts_rewritten word x slash e =
     let front = before_first is_slash word in
     let back = after_first is_slash word in
     let s = steps (numeral front) (λ num. then_step (numeral back) (λ den. reduced num den)) x e in
     let t = steps (numeral back) (λ den. reduced s.value den) x s.two in
-    let l = reduced_back s.value t.value x t.two in
-    let num : front ≡ signed_decimal x.num = numeral_back front s.value s.one l.above ∙ ap signed_decimal (sym l.num_same) in
-    let den : back ≡ decimal x.den = numeral_back back t.value t.one l.below ∙ ap signed_decimal (sym l.den_same) in
+    let l = reduced_rewritten s.value t.value x t.two in
+    let num : front ≡ signed_decimal x.num = numeral_rewritten front s.value s.one l.above ∙ ap signed_decimal (sym l.num_same) in
+    let den : back ≡ decimal x.den = numeral_rewritten back t.value t.one l.below ∙ ap signed_decimal (sym l.den_same) in
     let whole : word ≡ signed_decimal x.num ++ 47 ∷ decimal x.den = sides_written 47 word (signed_decimal x.num) (decimal x.den) slash num den in (
       whole ∙ sym (two_parts x (den_above x.den t.value l.den_same l.least)),
       record { num = subst IsInRange (sym l.num_same) l.above; den = den_below x.den t.value l.den_same l.below },
@@ -126,15 +126,15 @@ parts_back word x slash e =
 whole_reduced : (z : ℤ) → IsInRange z → IsReduced z (pos 1)
 whole_reduced z h = record { positive = omega (arith, ints); num_in = h; den_in = omega arith; coprime = one_reduced (unsigned_abs z) }
 
-pub fraction_back : SaysAs fraction_said fraction_word IsWritableFraction
+pub fraction_rewritten : SaysAs fraction_said fraction_word IsWritableFraction
 unfolding fraction_said
-fraction_back word x e =
+fraction_rewritten word x e =
     elim (cases_Bool (list_any is_slash word)) [
-      | inl slash ↦ parts_back word x slash (rw slash at e)
+      | inl slash ↦ parts_rewritten word x slash (rw slash at e)
       | inr plain ↦
           let f : then_step (whole_word word) (λ z. Ok (rational z (pos 1))) ≡ Ok x = rw plain at e in
           let s = steps (whole_word word) (λ z. Ok (rational z (pos 1))) x f in
-          let w = whole_back word s.value s.one in
+          let w = whole_rewritten word s.value s.one in
           let lowest = whole_reduced s.value w.1 in
           let same : rational s.value (pos 1) ≡ x = same_ok (Ok (rational s.value (pos 1))) (rational s.value (pos 1)) x refl s.two in
           let num : x.num ≡ s.value = ap (λ (y : Rational). y.num) (sym same) ∙ num_is s.value (pos 1) lowest in
@@ -145,9 +145,9 @@ fraction_back word x e =
 abbrev pub IsWritableValue : Option Rational → Type 0
 IsWritableValue o = IfSome o IsWritableFraction
 
-pub fraction_or_none_back : SaysAs fraction_or_none_said fraction_or_none IsWritableValue
+pub fraction_or_none_rewritten : SaysAs fraction_or_none_said fraction_or_none IsWritableValue
 unfolding fraction_or_none_said
-fraction_or_none_back word o e =
+fraction_or_none_rewritten word o e =
     elim (cases_Bool (bytes_eq word (codes "none"))) [
       | inl t ↦
           let f : Ok None ≡ Ok o = rw t at e in
@@ -157,5 +157,5 @@ fraction_or_none_back word o e =
           let f : then_step (fraction_said word) (λ x. Ok (Some x)) ≡ Ok o = rw t at e in
           let s = steps (fraction_said word) (λ x. Ok (Some x)) o f in
           let same : Some s.value ≡ o = same_ok (Ok (Some s.value)) (Some s.value) o refl s.two in
-          subst (λ (p : Option Rational). (word ≡ fraction_or_none p) × IsWritableValue p) same (fraction_back word s.value s.one)
+          subst (λ (p : Option Rational). (word ≡ fraction_or_none p) × IsWritableValue p) same (fraction_rewritten word s.value s.one)
     ]

@@ -9,7 +9,7 @@ use Rattle.um_text.specs.Texts.{behind_blanks, line_text}
 use Rattle.um_text.specs.Words.{has_bytes}
 use Rattle.um_text.proofs.Puts.{line_rest_is}
 use Rattle.um_treetext.specs.Words.{Words, Says, line_words}
-use Rattle.um_treetext.specs.Reading.{Pieces, Read, at_line, line_taken, next_line}
+use Rattle.um_treetext.specs.Reading.{Pieces, Read, at_line, line_taken, next_line_said}
 use Rattle.um_treelaws.proofs.ReadSteps.{AreWords}
 
 -- ---- the words of a line
@@ -40,15 +40,15 @@ abbrev Cut : List ℕ → Type 0
 Cut bs = (p : List ℕ) (ps : Words) → line_words bs ≡ p ∷ ps → list_all has_bytes ps ≡ true → bs ≡ p ++ behind_blanks ps
 
 -- a line whose words, but for the first, are none of them empty
-line_back : (bs p : List ℕ) (ps : Words) → line_words bs ≡ p ∷ ps → list_all has_bytes ps ≡ true → bs ≡ p ++ behind_blanks ps
+line_rewritten : (bs p : List ℕ) (ps : Words) → line_words bs ≡ p ∷ ps → list_all has_bytes ps ≡ true → bs ≡ p ++ behind_blanks ps
 unfolding line_words
-line_back [] p ps e t =
+line_rewritten [] p ps e t =
     let first : [] ≡ p = cc in
     let rest : [] ≡ ps = cc in
     subst (λ (q : List ℕ). [] ≡ q ++ behind_blanks ps) first (subst (λ (qs : Words). [] ≡ behind_blanks qs) rest refl)
-line_back (x ∷ xs) p ps e t =
+line_rewritten (x ∷ xs) p ps e t =
     elim (cases_Bool (nat_eq x 32)) [
-      | inl blank ↦ at_blank (line_words xs) (line_back xs) refl (rw blank at e) (eqb-true x 32 blank)
+      | inl blank ↦ at_blank (line_words xs) (line_rewritten xs) refl (rw blank at e) (eqb-true x 32 blank)
       | inr other ↦
           elim (cases_Bool (nat_eq x 9)) [
             | inl tab ↦
@@ -56,7 +56,7 @@ line_back (x ∷ xs) p ps e t =
                 let rest : [] ∷ [] ≡ ps = cc in
                 let u : list_all has_bytes ([] ∷ []) ≡ true = subst (λ (qs : Words). list_all has_bytes qs ≡ true) (sym rest) t in
                 absurd (no_bytes (and_parts (has_bytes []) true u).0)
-            | inr plain ↦ at_byte (line_words xs) (line_back xs) refl (rw (other, plain) at e)
+            | inr plain ↦ at_byte (line_words xs) (line_rewritten xs) refl (rw (other, plain) at e)
           ]
     ]
   where
@@ -83,8 +83,8 @@ line_back (x ∷ xs) p ps e t =
 abbrev pub bytes_of : Pieces → List ℕ
 bytes_of = join_with_byte 10
 
-pub pieces_back : (bs : List ℕ) → bytes_of (slice_split ends_line bs) ≡ bs
-pieces_back bs = join_with_byte-slice_split 10 bs
+pub pieces_rewritten : (bs : List ℕ) → bytes_of (slice_split ends_line bs) ≡ bs
+pieces_rewritten bs = join_with_byte-slice_split 10 bs
 
 -- the first line of some pieces, and what it says
 record LineSaid {A : Type 0} (says : Words → Says A) (ps left : Pieces) (v : A) : Type 0 where
@@ -92,8 +92,8 @@ record LineSaid {A : Type 0} (says : Words → Says A) (ps left : Pieces) (v : A
   said : says (line_words line) ≡ Ok v
   bytes : bytes_of ps ≡ line ++ 10 ∷ bytes_of left
 
-line_said : {A : Type 0} (says : Words → Says A) (before : ℕ) (ps : Pieces) (r : Read A) → next_line says before ps ≡ Ok r → LineSaid says ps r.left r.value
-unfolding next_line line_taken
+line_said : {A : Type 0} (says : Words → Says A) (before : ℕ) (ps : Pieces) (r : Read A) → next_line_said says before ps ≡ Ok r → LineSaid says ps r.left r.value
+unfolding next_line_said line_taken
 line_said says before [] r e = absurd (let bad = e in cc)
 line_said says before (line ∷ []) r e = absurd (let bad = e in cc)
 line_said {A = A} says before (line ∷ next ∷ more) r e = by (says (line_words line)) refl e
@@ -114,7 +114,7 @@ line_is w ws = ap (λ l. w ++ l) (line_rest_is ws) ∙ sym (append_assoc w (behi
 written_line : (line rest : List ℕ) (ws : Words) → AreWords (line_words line) ws → line ++ 10 ∷ rest ≡ line_text ws ++ rest
 written_line line rest [] are = absurd (line_some line are.are)
 written_line line rest (w ∷ ws) are =
-    let is = line_back line w ws are.are (and_parts (has_bytes w) (list_all has_bytes ws) are.some).1 in
+    let is = line_rewritten line w ws are.are (and_parts (has_bytes w) (list_all has_bytes ws) are.some).1 in
     ap (λ (l : List ℕ). l ++ 10 ∷ rest) is ∙ sym (append_assoc (w ++ behind_blanks ws) (10 ∷ []) rest) ∙ ap (λ (l : List ℕ). l ++ rest) (sym (line_is w ws))
 
 -- a line that was read is the words that are written of it
@@ -122,8 +122,8 @@ pub record LineRead {A : Type 0} (write : A → Words) (Good : A → Type 0) (ps
   pub bytes : bytes_of ps ≡ line_text (write r.value) ++ bytes_of r.left
   pub good : Good r.value
 
-pub line_read : {A : Type 0} (says : Words → Says A) (write : A → Words) (Good : A → Type 0) (before : ℕ) (ps : Pieces) (r : Read A) → LineAs says write Good → next_line says before ps ≡ Ok r → LineRead write Good ps r
-line_read says write Good before ps r back e =
+pub line_is_written : {A : Type 0} (says : Words → Says A) (write : A → Words) (Good : A → Type 0) (before : ℕ) (ps : Pieces) (r : Read A) → LineAs says write Good → next_line_said says before ps ≡ Ok r → LineRead write Good ps r
+line_is_written says write Good before ps r back e =
     let l = line_said says before ps r e in
     let w = back (line_words l.line) r.value l.said in
     record { bytes = l.bytes ∙ written_line l.line (bytes_of r.left) (write r.value) w.0; good = w.1 }

@@ -17,8 +17,8 @@ use Rattle.um_treetext.specs.NodeLines.{is_colon, has_one_colon, price_parts_sai
 use Rattle.um_treetext.specs.TreeText.{price_word, multiplier_words}
 use Rattle.um_treetext.specs.Writable.{IsWritablePrice, IsWritableList}
 use Rattle.um_treelaws.proofs.ReadSteps.{steps, same_ok, keeps_last, AreWords, are_more, are_none, SaysAs, took_as, told_as}
-use Rattle.um_treelaws.proofs.ReadNumbers.{from_zero_back, IsFromZero, from_zero_word_back}
-use Rattle.um_treelaws.proofs.ReadDigits.{numeral_back}
+use Rattle.um_treelaws.proofs.ReadNumbers.{from_zero_rewritten, IsFromZero, from_zero_word_rewritten}
+use Rattle.um_treelaws.proofs.ReadDigits.{numeral_rewritten}
 use Rattle.um_treelaws.proofs.ReadFractions.{sides_written}
 
 -- ---- the multiplier of a row
@@ -33,8 +33,8 @@ record IsPrice (rows next : ℕ) (p : Price) : Type 0 where
 not_zero : (z : ℤ) → nat_eq (unsigned_abs z) 0 ≡ false → z ≢ pos 0
 not_zero z t e = eqb-false (unsigned_abs z) 0 t (ap unsigned_abs e)
 
-price_of_back : (rows next : ℕ) (q : ℕ × ℤ) (p : Price) → q.0 < 2 ^ 32 → IsInRange q.1 → price_of rows next q ≡ Ok p → IsPrice rows next p × (p.row ≡ q.0) × (p.value ≡ q.1)
-price_of_back rows next q p small range e =
+price_of_rewritten : (rows next : ℕ) (q : ℕ × ℤ) (p : Price) → q.0 < 2 ^ 32 → IsInRange q.1 → price_of rows next q ≡ Ok p → IsPrice rows next p × (p.row ≡ q.0) × (p.value ≡ q.1)
+price_of_rewritten rows next q p small range e =
     let low = nat_lt q.0 next in
     let none = nat_eq (unsigned_abs q.1) 0 in
     let high = nat_le rows q.0 in
@@ -52,24 +52,24 @@ record ArePriceParts (row value : ℤ) (q : ℕ × ℤ) : Type 0 where
   small : q.0 < 2 ^ 32
   range : IsInRange q.1
 
-parts_back : (row value : ℤ) (q : ℕ × ℤ) → price_parts_said row value ≡ Ok q → ArePriceParts row value q
+parts_rewritten : (row value : ℤ) (q : ℕ × ℤ) → price_parts_said row value ≡ Ok q → ArePriceParts row value q
 unfolding price_parts_said
-parts_back row value q e =
+parts_rewritten row value q e =
     let s = steps (from_zero row) (λ n. kept ((not (nat_lt n (2 ^ 32) && in_range value), TooWide) ∷ []) (n, value)) q e in
     let n = s.value in
     let k = keeps_last (not (nat_lt n (2 ^ 32) && in_range value)) TooWide (n, value) q s.two in
     let both = and_parts (nat_lt n (2 ^ 32)) (in_range value) (not-false (nat_lt n (2 ^ 32) && in_range value) k.0) in
-    subst (ArePriceParts row value) k.1 (record { row_same = from_zero_back row n s.one; value_same = refl; small = ltb-true n (2 ^ 32) both.0; range = ltb-true (unsigned_abs value) (2 ^ 127) both.1 })
+    subst (ArePriceParts row value) k.1 (record { row_same = from_zero_rewritten row n s.one; value_same = refl; small = ltb-true n (2 ^ 32) both.0; range = ltb-true (unsigned_abs value) (2 ^ 127) both.1 })
 
 row_word : (word : List ℕ) (z : ℤ) (n m : ℕ) → numeral word ≡ Ok z → z ≡ pos n → n < 2 ^ 32 → m ≡ n → word ≡ decimal m
-row_word word z n m e is small same = numeral_back word (pos n) (e ∙ ap (λ (x : ℤ). Ok x) is) (omega (arith, small)) ∙ ap decimal (sym same)
+row_word word z n m e is small same = numeral_rewritten word (pos n) (e ∙ ap (λ (x : ℤ). Ok x) is) (omega (arith, small)) ∙ ap decimal (sym same)
 
 value_word : (word : List ℕ) (z q v : ℤ) → numeral word ≡ Ok z → z ≡ q → IsInRange q → v ≡ q → word ≡ signed_decimal v
-value_word word z q v e is range same = numeral_back word q (e ∙ ap (λ (x : ℤ). Ok x) is) range ∙ ap signed_decimal (sym same)
+value_word word z q v e is range same = numeral_rewritten word q (e ∙ ap (λ (x : ℤ). Ok x) is) range ∙ ap signed_decimal (sym same)
 
-price_back : (rows next : ℕ) → SaysAs (price_said rows next) price_word (IsPrice rows next)
+price_rewritten : (rows next : ℕ) → SaysAs (price_said rows next) price_word (IsPrice rows next)
 unfolding price_said
-price_back rows next word p e =
+price_rewritten rows next word p e =
     elim (cases_Bool (has_one_colon word)) [
       | inr f ↦ absurd (let bad : Err BadWord ≡ Ok p = rw f at e in cc)
       | inl t ↦
@@ -80,8 +80,8 @@ price_back rows next word p e =
           let row = steps (numeral front) (λ row. then_step (numeral back) (λ value. then_step (price_parts_said row value) (price_of rows next))) p f in
           let value = steps (numeral back) (λ value. then_step (price_parts_said row.value value) (price_of rows next)) p row.two in
           let parts = steps (price_parts_said row.value value.value) (price_of rows next) p value.two in
-          let q = parts_back row.value value.value parts.value parts.one in
-          let k = price_of_back rows next parts.value p q.small q.range parts.two in
+          let q = parts_rewritten row.value value.value parts.value parts.one in
+          let k = price_of_rewritten rows next parts.value p q.small q.range parts.two in
           let front_is : front ≡ decimal p.row = row_word front row.value parts.value.0 p.row row.one q.row_same q.small k.1 in
           let back_is : back ≡ signed_decimal p.value = value_word back value.value parts.value.1 p.value value.one q.value_same q.range k.2 in
           (sides_written 58 word (decimal p.row) (signed_decimal p.value) colon.0 front_is back_is, k.0)
@@ -121,16 +121,16 @@ more_prices rows next ws left p ps parts some one more = record {
 same_left : (w : List ℕ) (ws left : Words) (word : List ℕ) → w ∷ ws ≡ word ∷ left → ws ≡ left
 same_left w ws left word e = cc
 
-prices_back : (rows next : ℕ) (ws : Words) (ps : List Price) → prices_said rows next ws ≡ Ok ps → ArePrices rows next ws ps
+prices_rewritten : (rows next : ℕ) (ws : Words) (ps : List Price) → prices_said rows next ws ≡ Ok ps → ArePrices rows next ws ps
 unfolding prices_said
-prices_back rows next [] ps e = let same : [] ≡ ps = same_ok (Ok []) [] ps refl e in subst (ArePrices rows next []) same (none_prices rows next)
-prices_back rows next (w ∷ ws) ps e =
+prices_rewritten rows next [] ps e = let same : [] ≡ ps = same_ok (Ok []) [] ps refl e in subst (ArePrices rows next []) same (none_prices rows next)
+prices_rewritten rows next (w ∷ ws) ps e =
     let s = steps (taking (price_said rows next) (w ∷ ws)) (λ t. then_step (prices_said rows (t.value.row + 1) ws) (λ more. Ok (t.value ∷ more))) ps e in
     let p = s.value.value in
     let m = steps (prices_said rows (p.row + 1) ws) (λ more. Ok (p ∷ more)) ps s.two in
-    let one = took_as (price_said rows next) price_word (IsPrice rows next) (w ∷ ws) s.value (price_back rows next) s.one in
+    let one = took_as (price_said rows next) price_word (IsPrice rows next) (w ∷ ws) s.value (price_rewritten rows next) s.one in
     let left = same_left w ws s.value.left (price_word p) one.parts in
-    let more = prices_back rows (p.row + 1) ws m.value m.one in
+    let more = prices_rewritten rows (p.row + 1) ws m.value m.one in
     let same : p ∷ m.value ≡ ps = same_ok (Ok (p ∷ m.value)) (p ∷ m.value) ps refl m.two in
     subst (ArePrices rows next (w ∷ ws)) same (more_prices rows next (w ∷ ws) ws p m.value (one.parts ∙ ap (λ (l : Words). price_word p ∷ l) (sym left)) one.some one.good more)
 
@@ -141,15 +141,15 @@ pub record AreMultipliers (d : DeckValue) (Good : ℤ → Type 0) (ws : Words) (
   pub first : Good y.y0
   pub end : left ≡ []
 
-pub multipliers_back : (d : DeckValue) (says : List ℕ → Says ℤ) (Good : ℤ → Type 0) (ws : Words) (t : Taken MultipliersValue) → SaysAs says signed_decimal Good → ((z : ℤ) → Good z → IsFromZero z) → multipliers_said says (length d.rows) ws ≡ Ok t → AreMultipliers d Good ws t.value t.left
+pub multipliers_rewritten : (d : DeckValue) (says : List ℕ → Says ℤ) (Good : ℤ → Type 0) (ws : Words) (t : Taken MultipliersValue) → SaysAs says signed_decimal Good → ((z : ℤ) → Good z → IsFromZero z) → multipliers_said says (length d.rows) ws ≡ Ok t → AreMultipliers d Good ws t.value t.left
 unfolding multipliers_said
-multipliers_back d says Good ws t back from e =
+multipliers_rewritten d says Good ws t back from e =
     let rows = length d.rows in
     let s = steps (taking says ws) (λ y0. then_step (prices_said rows 0 y0.left) (λ prices. told (record { y0 = y0.value; rows = prices }) [])) t e in
     let z = s.value.value in
     let m = steps (prices_said rows 0 s.value.left) (λ prices. told (record { y0 = z; rows = prices }) []) t s.two in
     let one = took_as says signed_decimal Good ws s.value back s.one in
-    let more = prices_back rows 0 s.value.left m.value m.one in
+    let more = prices_rewritten rows 0 s.value.left m.value m.one in
     let y : MultipliersValue = record { y0 = z; rows = m.value } in
     let up = from z one.good in
     told_as (AreMultipliers d Good ws) y [] t m.two (record {
@@ -166,11 +166,11 @@ pub record IsZero (z : ℤ) : Type 0 where
 zero_size : (z : ℤ) → unsigned_abs z ≡ 0 → z ≡ pos 0
 zero_size z e = omega (arith, ints, e)
 
-pub zero_back : SaysAs zero_word signed_decimal IsZero
+pub zero_rewritten : SaysAs zero_word signed_decimal IsZero
 unfolding zero_word
-zero_back word z e =
+zero_rewritten word z e =
     let s = steps (from_zero_word word) (λ z. kept ((not (nat_eq (unsigned_abs z) 0), BadNode) ∷ []) z) z e in
     let k = keeps_last (not (nat_eq (unsigned_abs s.value) 0)) BadNode s.value z s.two in
-    let w = from_zero_word_back word s.value s.one in
+    let w = from_zero_word_rewritten word s.value s.one in
     let none = eqb-true (unsigned_abs s.value) 0 (not-false (nat_eq (unsigned_abs s.value) 0) k.0) in
     subst (λ (x : ℤ). (word ≡ signed_decimal x) × IsZero x) k.1 (w.0, record { from = w.1; zero = zero_size s.value none })

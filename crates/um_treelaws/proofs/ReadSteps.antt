@@ -128,11 +128,11 @@ pub record Behind (word : List ℕ) (ws left : Words) : Type 0 where
   pub parts : ws ≡ word ∷ left
   pub some : has_bytes word ≡ true
 
-pub fixed_back : (word : List ℕ) (ws left : Words) → fixed word ws ≡ Ok left → Behind word ws left
+pub fixed_rewritten : (word : List ℕ) (ws left : Words) → fixed word ws ≡ Ok left → Behind word ws left
 unfolding fixed next_word
-fixed_back word [] left e = absurd (let bad = e in cc)
-fixed_back word ([] ∷ ws) left e = absurd (let bad = e in cc)
-fixed_back word ((b ∷ bs) ∷ ws) left e =
+fixed_rewritten word [] left e = absurd (let bad = e in cc)
+fixed_rewritten word ([] ∷ ws) left e = absurd (let bad = e in cc)
+fixed_rewritten word ((b ∷ bs) ∷ ws) left e =
     elim (cases_Bool (bytes_eq (b ∷ bs) word)) [
       | inl t ↦
           let is = same_bytes (b ∷ bs) word t in
@@ -143,19 +143,19 @@ fixed_back word ((b ∷ bs) ∷ ws) left e =
     ]
 
 -- the words of a line are these and no more
-pub ended_back : (ws left : Words) → ended ws ≡ Ok left → ws ≡ []
-ended_back [] left e = refl
-ended_back (w ∷ ws) left e = absurd (let bad = e in cc)
+pub ended_rewritten : (ws left : Words) → ended ws ≡ Ok left → ws ≡ []
+ended_rewritten [] left e = refl
+ended_rewritten (w ∷ ws) left e = absurd (let bad = e in cc)
 
-pub over_back : {A : Type 0} (value v : A) (ws : Words) → over value ws ≡ Ok v → (ws ≡ []) × (value ≡ v)
-over_back value v [] e = (refl, let same : value ≡ v = cc in same)
-over_back value v (w ∷ ws) e = absurd (let bad = e in cc)
+pub over_rewritten : {A : Type 0} (value v : A) (ws : Words) → over value ws ≡ Ok v → (ws ≡ []) × (value ≡ v)
+over_rewritten value v [] e = (refl, let same : value ≡ v = cc in same)
+over_rewritten value v (w ∷ ws) e = absurd (let bad = e in cc)
 
 -- what the last word says is written as the line's one word
-pub sole_back : {A : Type 0} (says : List ℕ → Says A) (write : A → List ℕ) (Good : A → Type 0) (ws : Words) (v : A) → SaysAs says write Good → sole says ws ≡ Ok v → AreWords ws (write v ∷ []) × Good v
-sole_back {A = A} says write Good ws v back e =
+pub sole_rewritten : {A : Type 0} (says : List ℕ → Says A) (write : A → List ℕ) (Good : A → Type 0) (ws : Words) (v : A) → SaysAs says write Good → sole says ws ≡ Ok v → AreWords ws (write v ∷ []) × Good v
+sole_rewritten {A = A} says write Good ws v back e =
     let s = steps (taking says ws) (λ t. over t.value t.left) v e in
-    let o = over_back s.value.value v s.value.left s.two in
+    let o = over_rewritten s.value.value v s.value.left s.two in
     let k = took_as says write Good ws s.value back s.one in
     (are_more ws s.value.left [] (write v) (subst (λ (x : A). ws ≡ write x ∷ s.value.left) o.1 k.parts) (subst (λ (x : A). has_bytes (write x) ≡ true) o.1 k.some) (are_none s.value.left o.0), subst Good o.1 k.good)
 
@@ -165,16 +165,16 @@ pub record Labelled {A : Type 0} (label : List ℕ) (says : Words → Says A) (w
   pub behind : Behind label ws left
   pub said : says left ≡ Ok v
 
-pub labelled_back : {A : Type 0} (label : List ℕ) (says : Words → Says A) (ws : Words) (v : A) → labelled label says ws ≡ Ok v → Labelled label says ws v
-labelled_back label says ws v e = let s = steps (fixed label ws) says v e in record { left = s.value; behind = fixed_back label ws s.value s.one; said = s.two }
+pub labelled_rewritten : {A : Type 0} (label : List ℕ) (says : Words → Says A) (ws : Words) (v : A) → labelled label says ws ≡ Ok v → Labelled label says ws v
+labelled_rewritten label says ws v e = let s = steps (fixed label ws) says v e in record { left = s.value; behind = fixed_rewritten label ws s.value s.one; said = s.two }
 
 -- a line's words behind its label
 pub label_more : {A : Type 0} (label : List ℕ) (says : Words → Says A) (ws written : Words) (v : A) → (l : Labelled label says ws v) → AreWords l.left written → AreWords ws (label ∷ written)
 label_more label says ws written v l rest = are_more ws l.left written label l.behind.parts l.behind.some rest
 
-pub next_back : (word w : List ℕ) (ws : Words) → is_next word (w ∷ ws) ≡ true → w ≡ word
+pub next_rewritten : (word w : List ℕ) (ws : Words) → is_next word (w ∷ ws) ≡ true → w ≡ word
 unfolding is_next
-next_back word w ws t = same_bytes w word t
+next_rewritten word w ws t = same_bytes w word t
 
 -- ---- words by a list of words
 
@@ -183,15 +183,15 @@ abbrev pub Named : {A : Type 0} → (A → List ℕ) → List (List ℕ × A) �
 Named write [] = ⊤
 Named write (p ∷ ps) = (p.0 ≡ write p.1) × Named write ps
 
-pub called_back : {A : Type 0} (write : A → List ℕ) (ps : List (List ℕ × A)) → Named write ps → (word : List ℕ) (v : A) → called ps word ≡ Ok v → word ≡ write v
-called_back write [] named word v e = absurd (let bad = e in cc)
-called_back write (p ∷ ps) named word v e =
+pub called_rewritten : {A : Type 0} (write : A → List ℕ) (ps : List (List ℕ × A)) → Named write ps → (word : List ℕ) (v : A) → called ps word ≡ Ok v → word ≡ write v
+called_rewritten write [] named word v e = absurd (let bad = e in cc)
+called_rewritten write (p ∷ ps) named word v e =
     elim (cases_Bool (bytes_eq word p.0)) [
       | inl t ↦
           let f : Ok p.1 ≡ Ok v = rw t at e in
           let same : p.1 ≡ v = cc in
           same_bytes word p.0 t ∙ named.0 ∙ ap write same
-      | inr t ↦ let f : called ps word ≡ Ok v = rw t at e in called_back write ps named.1 word v f
+      | inr t ↦ let f : called ps word ≡ Ok v = rw t at e in called_rewritten write ps named.1 word v f
     ]
 
 -- any value is good

@@ -10,7 +10,7 @@ use Rattle.um_text.proofs.Puts.{line_rest_is}
 use Rattle.um_num.specs.Numbers.{then_step}
 use Rattle.um_treetext.specs.Words.{Words, Says, line_words, next_word, taking, fixed, labelled, sole}
 use Rattle.um_treetext.specs.FrontLines.{is_name_byte}
-use Rattle.um_treetext.specs.Reading.{Pieces, line_taken, next_line}
+use Rattle.um_treetext.specs.Reading.{Pieces, line_taken, next_line_said}
 
 -- ---- words
 
@@ -132,7 +132,7 @@ pub record IsLineOf {A : Type 0} (says : Words → Says A) (ws : Words) (value :
   pub bytes : list_all (list_all is_name_byte) ws ≡ true
   pub said : says ws ≡ Ok value
 
-pub line_read : {A : Type 0} (says : Words → Says A) (ws : Words) (v : A) (before : ℕ) (ls : List Words) → IsLineOf says ws v → next_line says before (pieces_of (ws ∷ ls)) ≡ Ok (record { value = v; left = pieces_of ls })
-unfolding next_line line_taken
+pub line_read : {A : Type 0} (says : Words → Says A) (ws : Words) (v : A) (before : ℕ) (ls : List Words) → IsLineOf says ws v → next_line_said says before (pieces_of (ws ∷ ls)) ≡ Ok (record { value = v; left = pieces_of ls })
+unfolding next_line_said line_taken
 line_read says ws v before [] h = rw (line_cut ws h.some h.bytes, h.said) refl
 line_read says ws v before (l ∷ ls) h = rw (line_cut ws h.some h.bytes, h.said) refl

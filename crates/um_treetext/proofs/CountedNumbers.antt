@@ -40,6 +40,6 @@ unfolding numbers taking
 no_number read n m ws left word fault count next says = rw (count, next, ← says) refl
 
 -- after the last
-pub all_read : (read : List ℤ) (m : ℕ) (ws : Words) → m ≡ 0 → numbers_behind read m ws ≡ Ok (record { value = read; left = ws })
+pub all_numbers_read : (read : List ℤ) (m : ℕ) (ws : Words) → m ≡ 0 → numbers_behind read m ws ≡ Ok (record { value = read; left = ws })
 unfolding numbers
-all_read read m ws none = rw (none, append-nil read) refl
+all_numbers_read read m ws none = rw (none, append-nil read) refl

@@ -17,6 +17,6 @@ then_fails fault said more h =
       | inr e ↦ inr (rw e refl)
     ]
 
-pub hands_on : {A B : Type 0} (r : Result A TreeFault) (fault : TreeFault) (said : Reads B) (P : A → Type 0) → IsErrAnd r (λ f. f ≡ fault) → Fails fault said → MatchResult r P (λ f. Fails f said)
-hands_on (Ok x) fault said P is h = absurd is
-hands_on (Err f) fault said P is h = rw is h
+pub hands_on_at : {A B : Type 0} (r : Result A TreeFault) (fault : TreeFault) (said : Reads B) (P : A → Type 0) → IsErrAnd r (λ f. f ≡ fault) → Fails fault said → MatchResult r P (λ f. Fails f said)
+hands_on_at (Ok x) fault said P is h = absurd is
+hands_on_at (Err f) fault said P is h = rw is h

@@ -25,8 +25,8 @@ use Rattle.um_treetext.specs.declared.reading.nodes.WhatWord.TheVariants as what
 use Rattle.um_treetext.specs.TreeText.{name_word}
 use Rattle.um_treetext.specs.Words.{Words, Says, Taken, some_or, next_word, taking, fixed, is_next, ended, is_short, is_at_least, over, sole, labelled, called, numeral, from_zero, natural_word, from_zero_word, whole_word, short_word, reduced, parts_word, fraction_said, fraction_or_none_said}
 use Rattle.um_treetext.specs.FrontLines.{is_name_byte, version_line, name_said, count_said, deck_line, tolerance_said, tolerance_line, kind_said, kind_line, op_said, wide_said, step_place_said, step_said, place_said, cause_called, cause_said, why_line, numbers, den_said, point_said, point_line, ray_said, ray_line, nodes_said, nodes_line}
-use Rattle.um_treetext.specs.NodeLines.{has_one_colon, price_parts_said, price_of, price_said, prices_said, multipliers_said, zero_word, name_said as index_said, column_said, cut_said, set_said, semi_said, void_said, shown_said, split_said, what_called, what_said, became_said, work_said, solved_said, node_line}
-use Rattle.um_treetext.specs.Reading.{Pieces, Reads, at_line, line_taken, next_line, front_read, values_read, nodes_read, end_read, is_end, pieces_read, tree_read}
+use Rattle.um_treetext.specs.NodeLines.{has_one_colon, price_parts_said, price_of, price_said, prices_said, multipliers_said, zero_word, index_said, column_said, cut_said, set_said, semi_said, void_said, shown_said, split_said, what_called, what_said, became_said, work_said, solved_said, node_line}
+use Rattle.um_treetext.specs.Reading.{Pieces, Reads, at_line, line_taken, next_line_said, front_read, values_read, nodes_read, end_read, is_end, pieces_read, tree_read}
 
 -- no word or line breaks a rule for want of memory
 abbrev pub NoMemory : {A : Type 0} → Says A → Type 0
@@ -365,8 +365,8 @@ on_taken before [] = no_end
 on_taken before (line ∷ []) = no_end
 on_taken before (line ∷ (next ∷ more)) = tt
 
-on_next : {A : Type 0} (says : Words → Says A) → ((ws : Words) → NoMemory (says ws)) → (before : ℕ) (ps : Pieces) → NoMemoryAt (next_line says before ps)
-unfolding next_line
+on_next : {A : Type 0} (says : Words → Says A) → ((ws : Words) → NoMemory (says ws)) → (before : ℕ) (ps : Pieces) → NoMemoryAt (next_line_said says before ps)
+unfolding next_line_said
 on_next says h before ps = on_steps _ _ (on_taken before ps) (λ line. on_steps _ _ (on_line (before + 1) (says line.value) (h line.value)) (λ v. tt))
 
 on_front : (d : DeckValue) (ps : Pieces) → NoMemoryAt (front_read d ps)

@@ -8,7 +8,7 @@ use Rattle.um_treetext.specs.declared.fault.TreeWord.{TreeWord}
 use Rattle.um_treetext.specs.declared.fault.TreeWord.TheVariants.{Memory}
 use Rattle.um_treetext.specs.Words.{Words}
 use Rattle.um_treetext.specs.NodeLines.{node_line}
-use Rattle.um_treetext.specs.Reading.{Pieces, Read, Reads, line_taken, next_line, nodes_read}
+use Rattle.um_treetext.specs.Reading.{Pieces, Read, Reads, line_taken, next_line_said, nodes_read}
 use Rattle.um_treetext.proofs.FaultSteps.{Fails}
 
 -- these nodes in front of those that are read
@@ -36,15 +36,15 @@ pub none_read : (d : DeckValue) (count : ℕ) (all : Pieces) → AreRead d count
 none_read d count all = let e : count - 0 ≡ count = omega arith in rw e (nothing_in_front (nodes_read d count 10 all))
 
 next_node : (d : DeckValue) (n m before : ℕ) (ps left : Pieces) (words : Words) (node : NodeValue) → n ≡ suc m → line_taken before ps ≡ Ok (record { value = words; left = left }) → node_line d words ≡ Ok node → nodes_read d n before ps ≡ in_front (node ∷ []) (nodes_read d m (before + 1) left)
-unfolding nodes_read next_line
+unfolding nodes_read next_line_said
 next_node d n m before ps left words node e taken said = rw (e, taken, said) (one_in_front node (nodes_read d m (before + 1) left))
 
 no_line : (d : DeckValue) (n m before : ℕ) (ps : Pieces) (at : ℕ × TreeWord) → n ≡ suc m → line_taken before ps ≡ Err at → nodes_read d n before ps ≡ Err at
-unfolding nodes_read next_line
+unfolding nodes_read next_line_said
 no_line d n m before ps at e taken = rw (e, taken) refl
 
 no_node : (d : DeckValue) (n m before : ℕ) (ps left : Pieces) (words : Words) (fault : TreeWord) → n ≡ suc m → line_taken before ps ≡ Ok (record { value = words; left = left }) → node_line d words ≡ Err fault → nodes_read d n before ps ≡ Err (before + 1, fault)
-unfolding nodes_read next_line
+unfolding nodes_read next_line_said
 no_node d n m before ps left words fault e taken said = rw (e, taken, said) refl
 
 -- ---- a turn of the loop
@@ -81,5 +81,5 @@ at_count : (d : DeckValue) (n before : ℕ) (ps : Pieces) (nodes : List NodeValu
 unfolding nodes_read
 at_count d n before ps nodes e = rw (e, append-nil nodes) refl
 
-pub all_read : (d : DeckValue) (count i : ℕ) (all left : Pieces) (nodes : List NodeValue) → count ≤ i → AreRead d count i all left nodes → nodes_read d count 10 all ≡ Ok (record { value = nodes; left = left })
-all_read d count i all left nodes over h = let end : count - i ≡ 0 = omega (arith, over) in h ∙ at_count d (count - i) (i + 10) left nodes end
+pub all_nodes_read : (d : DeckValue) (count i : ℕ) (all left : Pieces) (nodes : List NodeValue) → count ≤ i → AreRead d count i all left nodes → nodes_read d count 10 all ≡ Ok (record { value = nodes; left = left })
+all_nodes_read d count i all left nodes over h = let end : count - i ≡ 0 = omega (arith, over) in h ∙ at_count d (count - i) (i + 10) left nodes end

@@ -19,8 +19,8 @@ use Rattle.um_treetext.specs.declared.reading.nodes.WhatWord.{WhatWord}
 use Rattle.um_treetext.specs.declared.reading.nodes.WhatWord.TheVariants as what
 use Rattle.um_treetext.specs.Words.{Words, Says, Taken, numeral, taking, is_next, over, labelled, is_at_least, from_zero_word}
 use Rattle.um_treetext.specs.FrontLines.{numbers, den_said, point_said, point_line, ray_said, ray_line, nodes_line}
-use Rattle.um_treetext.specs.NodeLines.{is_colon, has_one_colon, price_parts_said, price_of, price_said, prices_said, multipliers_said, zero_word, name_said, column_said, cut_said, set_said, semi_said, void_said, shown_said, split_said, what_called, what_said, became_said, solved_said, node_line}
-use Rattle.um_treetext.specs.Reading.{Pieces, Read, ValuesSaid, at_line, next_line, front_read, values_read, nodes_read, end_read, pieces_read, tree_read}
+use Rattle.um_treetext.specs.NodeLines.{is_colon, has_one_colon, price_parts_said, price_of, price_said, prices_said, multipliers_said, zero_word, index_said, column_said, cut_said, set_said, semi_said, void_said, shown_said, split_said, what_called, what_said, became_said, solved_said, node_line}
+use Rattle.um_treetext.specs.Reading.{Pieces, Read, ValuesSaid, at_line, next_line_said, front_read, values_read, nodes_read, end_read, pieces_read, tree_read}
 
 -- ---- steps
 
@@ -52,8 +52,8 @@ of_line : {A : Type 0} (P : A → Type 0) (number : ℕ) (said : Says A) → IfO
 of_line P number (Ok x) h = h
 of_line P number (Err fault) h = tt
 
-of_next : {A : Type 0} (P : A → Type 0) (says : Words → Says A) → ((ws : Words) → IfOk (says ws) P) → (before : ℕ) (ps : Pieces) → IfOk (next_line says before ps) (λ (r : Read A). P r.value)
-unfolding next_line
+of_next : {A : Type 0} (P : A → Type 0) (says : Words → Says A) → ((ws : Words) → IfOk (says ws) P) → (before : ℕ) (ps : Pieces) → IfOk (next_line_said says before ps) (λ (r : Read A). P r.value)
+unfolding next_line_said
 of_next {A} P says h before ps = then_any (λ (r : Read A). P r.value) _ _ (λ line.
     then_steps P (λ (r : Read A). P r.value) (at_line (before + 1) (says line.value)) _ (of_line P (before + 1) (says line.value) (h line.value)) (λ v is. is))
 
@@ -161,7 +161,7 @@ of_multipliers first rows ws = then_any (λ (t : Taken MultipliersValue). HasRis
 
 of_column : (columns : ℕ) (word : List ℕ) → IfOk (column_said columns word) (λ n. n < columns)
 unfolding column_said
-of_column columns word = then_any (λ n. n < columns) (name_said word) _ (λ n. then_if (λ n. n < columns) (nat_le columns n) _ _ (λ e. tt) (λ e. leb-false columns n e))
+of_column columns word = then_any (λ n. n < columns) (index_said word) _ (λ n. then_if (λ n. n < columns) (nat_le columns n) _ _ (λ e. tt) (λ e. leb-false columns n e))
 
 -- what became of a node can be checked
 abbrev IsTaken : DeckValue → Taken WhatValue → Type 0
@@ -220,13 +220,13 @@ record AreValues (d : DeckValue) (v : ValuesSaid) : Type 0 where
 of_values : (d : DeckValue) (ps : Pieces) → IfOk (values_read d ps) (λ (r : Read ValuesSaid). AreValues d r.value)
 unfolding values_read
 of_values d ps =
-    then_any (λ (r : Read ValuesSaid). AreValues d r.value) (next_line _ 5 ps) _ (λ objective.
-    then_any (λ (r : Read ValuesSaid). AreValues d r.value) (next_line _ 6 objective.left) _ (λ bound.
+    then_any (λ (r : Read ValuesSaid). AreValues d r.value) (next_line_said _ 5 ps) _ (λ objective.
+    then_any (λ (r : Read ValuesSaid). AreValues d r.value) (next_line_said _ 6 objective.left) _ (λ bound.
     then_steps (λ (r : Read (Option PointValue)). IfSome r.value (IsPoint (length d.columns))) (λ (r : Read ValuesSaid). AreValues d r.value) _ _
     (of_next (λ o. IfSome o (IsPoint (length d.columns))) (point_line (length d.columns)) (of_labelled (λ o. IfSome o (IsPoint (length d.columns))) (codes "POINT") (point_said (length d.columns)) (of_point (length d.columns))) 7 bound.left) (λ point is_point.
     then_steps (λ (r : Read (Option (List ℤ))). IfSome r.value (AreMany (length d.columns))) (λ (r : Read ValuesSaid). AreValues d r.value) _ _
     (of_next (λ o. IfSome o (AreMany (length d.columns))) (ray_line (length d.columns)) (of_labelled (λ o. IfSome o (AreMany (length d.columns))) (codes "RAY") (ray_said (length d.columns)) (of_ray (length d.columns))) 8 point.left) (λ ray is_ray.
-    then_any (λ (r : Read ValuesSaid). AreValues d r.value) (next_line nodes_line 9 ray.left) _ (λ nodes. record { point = is_point; ray = is_ray })))))
+    then_any (λ (r : Read ValuesSaid). AreValues d r.value) (next_line_said nodes_line 9 ray.left) _ (λ nodes. record { point = is_point; ray = is_ray })))))
 
 checkable_point : (d : DeckValue) (o : Option PointValue) → IfSome o (IsPoint (length d.columns)) → IfSome o (IsCheckablePoint d)
 checkable_point d None h = tt

@@ -16,8 +16,8 @@ node_is None what = refl
 node_is (Some s) what = sym (append_assoc (decimal s.number) (32 ∷ decimal s.pivots) (line_rest what))
 
 -- a node's first two words, the others, and LF
-pub node_line : (t t1 t2 t3 : List ℕ) (s : Option Solved) (what : List (List ℕ)) → t1 ≡ t ++ front_text s → t2 ≡ t1 ++ behind_blanks what → t3 ≡ t2 ++ 10 ∷ [] → t3 ≡ t ++ line_text (solved_words s ++ what)
-node_line t t1 t2 t3 s what e f g = next_put t t1 t3 (front_text s) (line_rest what) (line_text (solved_words s ++ what)) e (next_put t1 t2 t3 (behind_blanks what) (10 ∷ []) (line_rest what) f g (line_rest_is what)) (node_is s what)
+pub node_line_put : (t t1 t2 t3 : List ℕ) (s : Option Solved) (what : List (List ℕ)) → t1 ≡ t ++ front_text s → t2 ≡ t1 ++ behind_blanks what → t3 ≡ t2 ++ 10 ∷ [] → t3 ≡ t ++ line_text (solved_words s ++ what)
+node_line_put t t1 t2 t3 s what e f g = next_put t t1 t3 (front_text s) (line_rest what) (line_text (solved_words s ++ what)) e (next_put t1 t2 t3 (behind_blanks what) (10 ∷ []) (line_rest what) f g (line_rest_is what)) (node_is s what)
 
 -- one node more
 pub more_nodes : (ns : List Node) (k : ℕ) (n : Node) → k < length ns → n ≡ get_or ns k n → lines_text (map node_words (map plain_node (take (k + 1) ns))) ≡ lines_text (map node_words (map plain_node (take k ns))) ++ line_text (node_words (plain_node n))

@@ -49,9 +49,9 @@ abbrev pub is_byte : ℕ → ℕ → Bool
 is_byte separator b = nat_eq b separator
 
 -- a small one is in range
-abbrev pub IsSmall : Numeral → Type 0
-IsSmall (Small number) = unsigned_abs number < 2 ^ 127
-IsSmall (Large negative) = ⊤
+abbrev pub IsSmallInRange : Numeral → Type 0
+IsSmallInRange (Small number) = unsigned_abs number < 2 ^ 127
+IsSmallInRange (Large negative) = ⊤
 
 -- ---- lines
 

@@ -65,23 +65,23 @@ zero_word word = then_step (from_zero_word word) (λ z. kept ((not (nat_eq (unsi
 -- ---- what became of a node
 
 -- the number of a column, a set or a position
-abbrev pub name_said : List ℕ → Says ℕ
-name_said = natural_word (2 ^ 32)
+abbrev pub index_said : List ℕ → Says ℕ
+index_said = natural_word (2 ^ 32)
 
 -- a column of the deck
 unfoldable pub column_said : ℕ → List ℕ → Says ℕ
-column_said columns word = then_step (name_said word) (λ n. kept ((nat_le columns n, BadNode) ∷ []) n)
+column_said columns word = then_step (index_said word) (λ n. kept ((nat_le columns n, BadNode) ∷ []) n)
 
 -- a column and a number of 64 bits
 unfoldable pub cut_said : (ℕ → ℤ → Branch) → Words → Says (Taken Branch)
-cut_said made ws = then_step (taking name_said ws) (λ column. then_step (taking short_word column.left) (λ at. told (made column.value at.value) at.left))
+cut_said made ws = then_step (taking index_said ws) (λ column. then_step (taking short_word column.left) (λ at. told (made column.value at.value) at.left))
 
 -- a set and a position
 unfoldable pub set_said : (ℕ → ℕ → Branch) → Words → Says (Taken Branch)
-set_said made ws = then_step (taking name_said ws) (λ set. then_step (taking name_said set.left) (λ at. told (made set.value at.value) at.left))
+set_said made ws = then_step (taking index_said ws) (λ set. then_step (taking index_said set.left) (λ at. told (made set.value at.value) at.left))
 
 unfoldable pub semi_said : Words → Says (Taken Branch)
-semi_said ws = then_step (taking name_said ws) (λ column. told (branch.Semi column.value) column.left)
+semi_said ws = then_step (taking index_said ws) (λ column. told (branch.Semi column.value) column.left)
 
 unfoldable pub void_said : ℕ → Words → Says (Taken WhatValue)
 void_said columns ws = then_step (taking (column_said columns) ws) (λ column. told (Void column.value) column.left)

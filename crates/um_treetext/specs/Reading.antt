@@ -37,8 +37,8 @@ line_taken before (line ∷ next ∷ more) = Ok (record { value = line_words lin
 line_taken before other = Err (before, NoEnd)
 
 -- what the next line says
-unfoldable pub next_line : {A : Type 0} → (Words → Says A) → (before : ℕ) → Pieces → Reads (Read A)
-next_line says before ps =
+unfoldable pub next_line_said : {A : Type 0} → (Words → Says A) → (before : ℕ) → Pieces → Reads (Read A)
+next_line_said says before ps =
     then_step (line_taken before ps) (λ line.
     then_step (at_line (before + 1) (says line.value)) (λ v. Ok (record { value = v; left = line.left })))
 
@@ -46,11 +46,11 @@ next_line says before ps =
 
 unfoldable pub front_read : DeckValue → Pieces → Reads (Read Front)
 front_read d ps =
-    then_step (next_line version_line 0 ps) (λ version.
-    then_step (next_line (deck_line d) 1 version.left) (λ deck.
-    then_step (next_line tolerance_line 2 deck.left) (λ tolerance.
-    then_step (next_line kind_line 3 tolerance.left) (λ kind.
-    then_step (next_line why_line 4 kind.left) (λ why.
+    then_step (next_line_said version_line 0 ps) (λ version.
+    then_step (next_line_said (deck_line d) 1 version.left) (λ deck.
+    then_step (next_line_said tolerance_line 2 deck.left) (λ tolerance.
+    then_step (next_line_said kind_line 3 tolerance.left) (λ kind.
+    then_step (next_line_said why_line 4 kind.left) (λ why.
     Ok (record { value = record { tolerance = tolerance.value; kind = kind.value; why = why.value }; left = why.left }))))))
 
 -- what the lines from the objective to the count of nodes say
@@ -63,11 +63,11 @@ pub record ValuesSaid : Type 0 where
 
 unfoldable pub values_read : DeckValue → Pieces → Reads (Read ValuesSaid)
 values_read d ps =
-    then_step (next_line (labelled (codes "OBJECTIVE") (sole fraction_or_none_said)) 5 ps) (λ objective.
-    then_step (next_line (labelled (codes "BOUND") (sole fraction_or_none_said)) 6 objective.left) (λ bound.
-    then_step (next_line (point_line (length d.columns)) 7 bound.left) (λ point.
-    then_step (next_line (ray_line (length d.columns)) 8 point.left) (λ ray.
-    then_step (next_line nodes_line 9 ray.left) (λ nodes.
+    then_step (next_line_said (labelled (codes "OBJECTIVE") (sole fraction_or_none_said)) 5 ps) (λ objective.
+    then_step (next_line_said (labelled (codes "BOUND") (sole fraction_or_none_said)) 6 objective.left) (λ bound.
+    then_step (next_line_said (point_line (length d.columns)) 7 bound.left) (λ point.
+    then_step (next_line_said (ray_line (length d.columns)) 8 point.left) (λ ray.
+    then_step (next_line_said nodes_line 9 ray.left) (λ nodes.
     Ok (record {
       value = record { objective = objective.value; bound = bound.value; point = point.value; ray = ray.value; nodes = nodes.value };
       left = nodes.left;
@@ -79,7 +79,7 @@ values_read d ps =
 unfoldable pub nodes_read : DeckValue → ℕ → (before : ℕ) → Pieces → Reads (Read (List NodeValue))
 nodes_read d zero before ps = Ok (record { value = []; left = ps })
 nodes_read d (suc n) before ps =
-    then_step (next_line (node_line d) before ps) (λ node.
+    then_step (next_line_said (node_line d) before ps) (λ node.
     then_step (nodes_read d n (before + 1) node.left) (λ more.
     Ok (record { value = node.value ∷ more.value; left = more.left })))
 
@@ -91,7 +91,7 @@ is_end other = false
 -- the line END, and no byte behind it
 unfoldable pub end_read : (before : ℕ) → Pieces → Reads Pieces
 end_read before ps =
-    then_step (next_line (labelled (codes "END") ended) before ps) (λ end.
+    then_step (next_line_said (labelled (codes "END") ended) before ps) (λ end.
     if is_end end.left then Ok end.left else Err (before + 2, BadWord))
 
 -- ---- the text

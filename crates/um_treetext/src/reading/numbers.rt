@@ -4,7 +4,7 @@ ghost use Rattle.std.specs.Prelude.{◌≡◌, ◌^◌, ◌<◌, ◌≤ℤ◌, �
 ghost use Rattle.std.specs.Str.{bytes_eq};
 ghost use Rattle.std.specs.List.{after_first, before_first, list_any, position};
 ghost use Rattle.um_text.specs.Numerals.{has_minus};
-ghost use Rattle.um_treetext.specs.Calls.{IsNumeral, IsSmall, Stands, is_byte};
+ghost use Rattle.um_treetext.specs.Calls.{IsNumeral, IsSmallInRange, Stands, is_byte};
 ghost use Rattle.um_treetext.specs.FrontLines.{den_said};
 ghost use Rattle.um_treetext.specs.Words.{fraction_or_none_said, fraction_said, from_zero_word, natural_word, numeral, parts_word, reduced, short_word, whole_word};
 
@@ -23,7 +23,7 @@ pub enum Numeral {
 
 pub fn numeral_of(word: &[u8]) -> Result<Numeral, TreeWord>
     ensures numeral { MatchResult result (IsNumeral word.now) (λ fault. numeral word.now ≡ Err fault) }
-    ensures range { IfOk result IsSmall }
+    ensures range { IfOk result IsSmallInRange }
 {
     match whole(word) {
         Ok(number) => Ok(Numeral::Small(number)),
@@ -155,8 +155,8 @@ fn fraction(word: &[u8]) -> Result<Frac, TreeWord>
 
 /// The fraction of two parts in lowest terms, the lower one from 2 on.
 fn reduced(num: Numeral, den: Numeral) -> Result<Frac, TreeWord>
-    requires num_small { IsSmall num }
-    requires den_small { IsSmall den }
+    requires num_small { IsSmallInRange num }
+    requires den_small { IsSmallInRange den }
     ensures { (n d : ℤ) → Stands num n → Stands den d → result ≡ reduced n d }
 {
     match den {
@@ -168,7 +168,7 @@ fn reduced(num: Numeral, den: Numeral) -> Result<Frac, TreeWord>
 
 /// The fraction over a number in range.
 fn over(num: Numeral, den: i128) -> Result<Frac, TreeWord>
-    requires num_small { IsSmall num }
+    requires num_small { IsSmallInRange num }
     requires den_small { unsigned_abs den < 2 ^ 127 }
     ensures { (n : ℤ) → Stands num n → result ≡ reduced n den }
 {

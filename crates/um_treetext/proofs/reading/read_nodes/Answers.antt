@@ -2,8 +2,8 @@ use Rattle.std.proofs.Common.{◌∷◌, [], map, arith}
 use Rattle.std.proofs.lemmas.List.{map-append, length_push}
 use Rattle.um_model.specs.AnswerValues.{plain_node}
 use Rattle.um_treetext.proofs.LineSteps.{reads_fails, said_ok, said_err, promised_ok, promised_err}
-use Rattle.um_treetext.proofs.FaultSteps.{hands_on}
-use Rattle.um_treetext.proofs.NodeSteps.{line_not_there, node_fails, more_read, all_read}
+use Rattle.um_treetext.proofs.FaultSteps.{hands_on_at}
+use Rattle.um_treetext.proofs.NodeSteps.{line_not_there, node_fails, more_read, all_nodes_read}
 use Rattle.um_treetext.proofs.reading.read_nodes.Goals as goal
 
 pub returns-in_err-next : goal.returns-in_err-next
@@ -15,7 +15,7 @@ pub returns-in_err-node : goal.returns-in_err-node
 returns-in_err-node c =
     let s = said_err _ c.read_node.result c.at_line.result c.in_err-node.field-0.0 c.at_line.ensures c.in_err-node.was in
     let w = promised_err c.read_node.result _ _ _ s.0 c.read_node.ensures in
-    hands_on _ c.in_err-node.field-0.0 _ _ c.from_residual-in_err-node.ensures.1
+    hands_on_at _ c.in_err-node.field-0.0 _ _ c.from_residual-in_err-node.ensures.1
     (node_fails c.args.deck.now c.args.count c.loop-i.i c.args.lines.now c.loop-i.lines _ (map plain_node c.loop-i.tree) _ c.in_err-node.field-0.0 c.loop-i-test.true c.loop-i.invariant.read c.in_ok-next.ensures w s.1)
 
 pub loop-i-preserved : goal.loop-i-preserved
@@ -28,4 +28,4 @@ loop-i-preserved c =
     rw pushed (record { count = omega (arith, long, count); read = rw (map-append plain_node c.loop-i.tree (c.in_ok-node.node ∷ [])) more })
 
 pub returns : goal.returns
-returns c = all_read c.args.deck.now c.args.count c.loop-i.i c.args.lines.now c.loop-i.lines (map plain_node c.loop-i.tree) c.loop-i-test.false c.loop-i.invariant.read
+returns c = all_nodes_read c.args.deck.now c.args.count c.loop-i.i c.args.lines.now c.loop-i.lines (map plain_node c.loop-i.tree) c.loop-i-test.false c.loop-i.invariant.read

@@ -2,7 +2,7 @@ use Rattle.std.proofs.Common.{arith, ap, sym, ◌∙◌, ◌-◌, ◌+◌, inl, 
 use Rattle.um_num.specs.Listed.{Listed}
 use Rattle.um_num.proofs.Parts.{from_bits}
 use Rattle.um_treetext.specs.declared.fault.TreeWord.TheVariants.{Memory}
-use Rattle.um_treetext.proofs.CountedNumbers.{numbers_behind, none_read, one_read, no_word, no_number, all_read}
+use Rattle.um_treetext.proofs.CountedNumbers.{numbers_behind, none_read, one_read, no_word, no_number, all_numbers_read}
 use Rattle.um_treetext.proofs.WantOfMemory.{hands_on}
 use Rattle.um_treetext.proofs.reading.parts.read_numbers.Goals as goal
 
@@ -32,4 +32,4 @@ pub returns-in_err-push : goal.returns-in_err-push
 returns-in_err-push c = hands_on _ Memory _ _ c.from_residual-in_err-push.ensures.1 (inl refl)
 
 pub returns : goal.returns
-returns c = c.loop-i.invariant ∙ all_read c.loop-i.numbers.items _ c.loop-i.words (omega arith)
+returns c = c.loop-i.invariant ∙ all_numbers_read c.loop-i.numbers.items _ c.loop-i.words (omega arith)

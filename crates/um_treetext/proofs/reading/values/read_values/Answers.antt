@@ -7,7 +7,7 @@ use Rattle.um_treetext.specs.FrontLines.{point_line, ray_line, nodes_line}
 use Rattle.um_treetext.specs.Reading.{values_read}
 use Rattle.um_treetext.specs.Words.{Words, Says, fraction_or_none_said, labelled, sole}
 use Rattle.um_treetext.proofs.LineSteps.{reads_fails, said_ok}
-use Rattle.um_treetext.proofs.FaultSteps.{hands_on as hands_on_at}
+use Rattle.um_treetext.proofs.FaultSteps.{hands_on_at}
 use Rattle.um_treetext.proofs.MemoryFaults.{for_whole, tells, line_missing, line_read, line_broken}
 use Rattle.um_treetext.proofs.reading.values.read_values.Goals as goal
 
