@@ -33,8 +33,8 @@ IsNewWhat d b (OpenLeaf y) = y ≡ one_and_none
 abbrev pub IsNewNode : DeckValue → BoxValue → NodeValue → Type 0
 IsNewNode d b n = IsNewWhat d b n.what
 
--- the entry waits under these multipliers, and its key has this id and depth
-pub record IsHanded (id depth : ℕ) (y : MultipliersValue) (w : OpenNode) : Type 0 where
+-- the entry waits under these multipliers, with a key of this id and depth
+pub record IsEntryUnder (id depth : ℕ) (y : MultipliersValue) (w : OpenNode) : Type 0 where
   pub id_is : w.key.id ≡ id
   pub depth_is : w.key.depth ≡ depth
   pub multipliers : plain_multipliers w.y ≡ y

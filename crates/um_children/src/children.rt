@@ -6,7 +6,7 @@ ghost use Rattle.um_model.specs.Boxes.{IsVoid};
 ghost use Rattle.um_model.specs.Branches.{Fits, child};
 ghost use Rattle.um_bound.specs.Usable.{AreUsable};
 ghost use Rattle.um_model.specs.AnswerValues.{plain_node, OpenLeaf};
-ghost use Rattle.um_children.specs.NewChildren.{one_and_none, IsChild, IsNewNode, IsHanded};
+ghost use Rattle.um_children.specs.NewChildren.{one_and_none, IsChild, IsNewNode, IsEntryUnder};
 
 use crate::handed::one_and_none;
 use crate::keys::key_of;
@@ -43,7 +43,7 @@ pub fn make_child(
     ensures back { node.new ≡ node.old }
     ensures child { IsChild deck.now (child deck.now node.old.limits branch.now side) id result }
     ensures node { IsNewNode deck.now (child deck.now node.old.limits branch.now side) (plain_node result.node) }
-    ensures handed { IfSome result.entry (IsHanded id depth (plain_multipliers y)) }
+    ensures handed { IfSome result.entry (IsEntryUnder id depth (plain_multipliers y)) }
 {
     let undo = node.enter(branch, side);
     let made = child_of(deck, node, id, depth, y, alloc);
@@ -66,7 +66,7 @@ fn child_of(
     requires y0 { pos 0 <ℤ y.y0 }
     ensures child { IsChild deck.now node.now.limits id result }
     ensures node { IsNewNode deck.now node.now.limits (plain_node result.node) }
-    ensures handed { IfSome result.entry (IsHanded id depth (plain_multipliers y)) }
+    ensures handed { IfSome result.entry (IsEntryUnder id depth (plain_multipliers y)) }
 {
     match node.void() {
         Some(column) => void_child(column),
@@ -103,7 +103,7 @@ fn open_child(
     requires y0 { pos 0 <ℤ y.y0 }
     ensures child { IsChild deck.now node.now.limits id result }
     ensures node { IsNewNode deck.now node.now.limits (plain_node result.node) }
-    ensures handed { IfSome result.entry (IsHanded id depth (plain_multipliers y)) }
+    ensures handed { IfSome result.entry (IsEntryUnder id depth (plain_multipliers y)) }
 {
     let key = key_of(deck, node, id, depth, &y);
     Child {

@@ -14,7 +14,7 @@ use Rattle.um_progress.proofs.KeyBounds.{entry_key}
 use Rattle.um_turns.specs.NextTurns.{AreUnder}
 use Rattle.um_turns.proofs.Lists.{every_map}
 use Rattle.um_children.specs.declared.children.Child.{Child}
-use Rattle.um_children.specs.NewChildren.{IsChild, IsHanded, IsNewWhat, IsNewNode, entries_of}
+use Rattle.um_children.specs.NewChildren.{IsChild, IsEntryUnder, IsNewWhat, IsNewNode, entries_of}
 
 -- its node is a leaf
 new_what : (d : DeckValue) (b : BoxValue) (w : WhatValue) → IsNewWhat d b w → IsLeaf w
@@ -43,9 +43,9 @@ pub child_key : (d : DeckValue) (b : BoxValue) (id : ℕ) (c : Child) → IsChil
 child_key d b id c is = let h = is None (pos 0) in key_of_entry d b id (plain_node c.node).what c.entry h.waits
 
 -- and waits under the multipliers that it was handed, with its id and depth
-pub child_handed : (id depth : ℕ) (y : MultipliersValue) (entry : Option OpenNode) → IfSome entry (IsHanded id depth y) → Every (IsHanded id depth y) (entries_of entry)
+pub child_handed : (id depth : ℕ) (y : MultipliersValue) (entry : Option OpenNode) → IfSome entry (IsEntryUnder id depth y) → Every (IsEntryUnder id depth y) (entries_of entry)
 child_handed id depth y None h = tt
 child_handed id depth y (Some w) h = (h, tt)
 
-pub handed_under : (id depth : ℕ) (y : MultipliersValue) (more : List OpenNode) → Every (IsHanded id depth y) more → AreUnder y more
-handed_under id depth y more all = every_map (IsHanded id depth y) (λ (w : OpenNode). plain_multipliers w.y ≡ y) more (λ w h. h.multipliers) all
+pub handed_under : (id depth : ℕ) (y : MultipliersValue) (more : List OpenNode) → Every (IsEntryUnder id depth y) more → AreUnder y more
+handed_under id depth y more all = every_map (IsEntryUnder id depth y) (λ (w : OpenNode). plain_multipliers w.y ≡ y) more (λ w h. h.multipliers) all

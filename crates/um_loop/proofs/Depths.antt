@@ -15,7 +15,7 @@ use Rattle.um_nodes.specs.declared.open_nodes.OpenNode.{OpenNode}
 use Rattle.um_progress.specs.Waits.{Every, WaitsIn}
 use Rattle.um_progress.specs.Searches.{ChildWaits}
 use Rattle.um_progress.proofs.Acts.{every_join}
-use Rattle.um_children.specs.NewChildren.{IsHanded}
+use Rattle.um_children.specs.NewChildren.{IsEntryUnder}
 use Rattle.um_turns.proofs.Lists.{every_map, every_both}
 use Rattle.um_loop.specs.Goings.{IsKeyOf}
 
@@ -76,19 +76,19 @@ module _ (g : GrowthValue) (id : ℕ) (solved : Option Solved) (branch : Branch)
     keys_stay d ws waits keys = every_both (WaitsIn d g) (IsKeyOf g) (IsKeyOf after) ws (λ w i k. record { id_is = k.id_is; depth_is = k.depth_is ∙ sym (depth_stays w.node i.fresh.inside) }) waits keys
 
     -- and so are those of the children
-    child_keys : (d : DeckValue) (b : BoxValue) (k depth : ℕ) (y : MultipliersValue) (w : WhatValue) (more : List OpenNode) → length (way after k) ≡ depth → ChildWaits d b k w more → Every (IsHanded k depth y) more → Every (IsKeyOf after) more
+    child_keys : (d : DeckValue) (b : BoxValue) (k depth : ℕ) (y : MultipliersValue) (w : WhatValue) (more : List OpenNode) → length (way after k) ≡ depth → ChildWaits d b k w more → Every (IsEntryUnder k depth y) more → Every (IsKeyOf after) more
     child_keys d b k depth y (Split branch) more is c handed = absurd c
     child_keys d b k depth y (Bounded z) more is c handed = absurd c
     child_keys d b k depth y (Empty z) more is c handed = absurd c
     child_keys d b k depth y (Void column) more is c handed = subst (Every (IsKeyOf after)) (sym c) tt
     child_keys d b k depth y (OpenLeaf z) more is c handed =
-        let own = (subst (Every (IsHanded k depth y)) c.1 handed).0 in
+        let own = (subst (Every (IsEntryUnder k depth y)) c.1 handed).0 in
         let at = c.2.node in
         let key : IsKeyOf after c.0 = record { id_is = own.id_is ∙ sym at; depth_is = own.depth_is ∙ sym is ∙ ap (λ (j : ℕ). length (way after j)) (sym at) } in
         subst (Every (IsKeyOf after)) (sym c.1) (key, tt)
 
     pub part_keys : (d : DeckValue) (bl br : BoxValue) (depth : ℕ) (y : MultipliersValue) (ws more_left more_right : List OpenNode) → depth ≡ length (way g id) → ChildWaits d bl (length g.nodes) l.what more_left → ChildWaits d br (suc (length g.nodes)) r.what more_right
-        → Every (IsHanded (length g.nodes) (depth + 1) y) more_left → Every (IsHanded (suc (length g.nodes)) (depth + 1) y) more_right → Every (WaitsIn d g) ws → Every (IsKeyOf g) ws → Every (IsKeyOf after) ((ws ++ more_left) ++ more_right)
+        → Every (IsEntryUnder (length g.nodes) (depth + 1) y) more_left → Every (IsEntryUnder (suc (length g.nodes)) (depth + 1) y) more_right → Every (WaitsIn d g) ws → Every (IsKeyOf g) ws → Every (IsKeyOf after) ((ws ++ more_left) ++ more_right)
     part_keys d bl br depth y ws more_left more_right is cl cr hl hr waits keys =
         let deeper : suc (length (way g id)) ≡ depth + 1 = omega (arith, is) in
         every_join (IsKeyOf after) (ws ++ more_left) more_right

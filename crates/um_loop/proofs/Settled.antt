@@ -33,10 +33,10 @@ use Rattle.um_progress.proofs.Changes.{IsChange, settle_changes, split_changes}
 use Rattle.um_progress.proofs.Lineages.{settle_lineage, part_lineage}
 use Rattle.um_progress.proofs.Parting.{part_act}
 use Rattle.um_split.specs.Branchings.{IsBranchOf}
-use Rattle.um_children.specs.NewChildren.{IsHanded}
+use Rattle.um_children.specs.NewChildren.{IsEntryUnder}
 use Rattle.um_turns.specs.Turns.{Turn, TurnEnd, Reached, Halted, EndHolds, Became, IsFinished, kept_multipliers}
 use Rattle.um_opening.specs.Numbers.{parts_of}
-use Rattle.um_turns.specs.Histories.{History, HasVertex, IsHanded as IsHandedBy, IsBest, left_behind, ray_of}
+use Rattle.um_turns.specs.Histories.{History, HasVertex, IsHanded, IsBest, left_behind, ray_of}
 use Rattle.um_turns.specs.NextTurns.{IsNextTurn}
 use Rattle.um_turns.proofs.Chains.{state_more, left_more}
 use Rattle.um_turns.proofs.Lists.{every_more}
@@ -179,7 +179,7 @@ module _ (d : DeckValue) (start : State) (most : ℕ) (taken : OpenNode) (s : Se
         left_is = t.going.left_is;
         within = within;
         hand_needed = subst (λ (id : ℕ). IsOpenBefore d history (length history) (box_at d s.growth id) handed) (sym node_is) handed_open;
-        handed_is = subst (λ (id : ℕ). IsHandedBy history (origin_at s.growth id) handed) (sym node_is) t.handed;
+        handed_is = subst (λ (id : ℕ). IsHanded history (origin_at s.growth id) handed) (sym node_is) t.handed;
         waits = waits;
         hand_key = hand_key;
         kept = keeps;
@@ -225,7 +225,7 @@ module _ (d : DeckValue) (start : State) (most : ℕ) (taken : OpenNode) (s : Se
         -- as a split
         module _ (p : PointValue) (y : MultipliersValue) (end_is : end ≡ Reached p y) (branch : Branch) (fits : Fits d box branch) (asked : IsBranchOf d p branch) (few : s.solved < 100000) (found : IsSome best → IsSome s.least)
             (none_closing : (k : ℕ) (q : PointValue) → HasVertex longer k q → Feasible d q → ¬ Closes d box y (objective d q) (pos 0)) where
-          module _ (l r : NodeValue) (more_left more_right : List OpenNode) (cl : ChildIs d (objective_of best) (pos 0) (left_box d box branch) (length s.growth.nodes) l more_left) (cr : ChildIs d (objective_of best) (pos 0) (right_box d box branch) (suc (length s.growth.nodes)) r more_right) (hl : Every (IsHanded (length s.growth.nodes) (taken.key.depth + 1) y) more_left) (hr : Every (IsHanded (suc (length s.growth.nodes)) (taken.key.depth + 1) y) more_right) where
+          module _ (l r : NodeValue) (more_left more_right : List OpenNode) (cl : ChildIs d (objective_of best) (pos 0) (left_box d box branch) (length s.growth.nodes) l more_left) (cr : ChildIs d (objective_of best) (pos 0) (right_box d box branch) (suc (length s.growth.nodes)) r more_right) (hl : Every (IsEntryUnder (length s.growth.nodes) (taken.key.depth + 1) y) more_left) (hr : Every (IsEntryUnder (suc (length s.growth.nodes)) (taken.key.depth + 1) y) more_right) where
             became : Became d handed end (Split branch)
             became = subst (λ (e : TurnEnd). Became d handed e (Split branch)) (sym end_is) asked
 

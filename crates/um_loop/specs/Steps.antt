@@ -27,7 +27,7 @@ use Rattle.um_progress.specs.declared.incumbent.Incumbent.{Incumbent}
 use Rattle.um_progress.specs.Waits.{Every, KeyIs}
 use Rattle.um_progress.specs.Searches.{IsLesser, ChildIs}
 use Rattle.um_progress.specs.Incumbents.{objective_of}
-use Rattle.um_children.specs.NewChildren.{IsHanded, IsNewNode}
+use Rattle.um_children.specs.NewChildren.{IsEntryUnder, IsNewNode}
 use Rattle.um_split.specs.Branchings.{IsBranchOf, AsksForNone}
 use Rattle.um_split.specs.Laws.{IsPointOf}
 use Rattle.um_loop.specs.declared.search.Search.{Search}
@@ -99,8 +99,8 @@ pub record HasBranched (d : DeckValue) (b : BoxValue) (before : Search) (id dept
   pub second_more : List OpenNode
   pub first_is : (incumbent : Option Rational) (tolerance : ℤ) → ChildIs d incumbent tolerance (left d b branch) (length before.growth.nodes) first first_more
   pub second_is : (incumbent : Option Rational) (tolerance : ℤ) → ChildIs d incumbent tolerance (right d b branch) (suc (length before.growth.nodes)) second second_more
-  pub first_handed : Every (IsHanded (length before.growth.nodes) depth y) first_more
-  pub second_handed : Every (IsHanded (suc (length before.growth.nodes)) depth y) second_more
+  pub first_handed : Every (IsEntryUnder (length before.growth.nodes) depth y) first_more
+  pub second_handed : Every (IsEntryUnder (suc (length before.growth.nodes)) depth y) second_more
   pub first_new : IsNewNode d (left d b branch) first
   pub second_new : IsNewNode d (right d b branch) second
   pub after_is : after ≡ branched_search before id solved branch first second first_more second_more

@@ -6,7 +6,7 @@ use Rattle.um_model.specs.declared.branch.Side.TheVariants.{Left, Right}
 use Rattle.um_box.specs.NodeBoxes.{NodeBoxValue}
 use Rattle.um_nodes.specs.declared.open_nodes.OpenNode.{OpenNode}
 use Rattle.um_progress.specs.Waits.{Every}
-use Rattle.um_children.specs.NewChildren.{IsChild, IsHanded, IsNewNode, entries_of}
+use Rattle.um_children.specs.NewChildren.{IsChild, IsEntryUnder, IsNewNode, entries_of}
 use Rattle.um_loop.proofs.ChildParts.{child_key, child_handed}
 use Rattle.um_loop.proofs.search.Search.branch.Goals as goal
 
@@ -33,9 +33,9 @@ returns c =
       second_more = entries_of r.entry;
       first_is = subst (λ (id : ℕ). IsChild d (child d c.args.node.now.limits c.args.branch Left) id l) next c.make_child-left.ensures.child;
       second_is = subst (λ (id : ℕ). IsChild d (child d c.args.node.now.limits c.args.branch Right) id r) after second;
-      first_handed = subst (λ (id : ℕ). Every (IsHanded id c.args.depth y) (entries_of l.entry)) next
-          (subst (λ (z : MultipliersValue). Every (IsHanded c.len-next.result c.args.depth z) (entries_of l.entry)) c.in_ok-copy.ensures (child_handed _ _ _ l.entry c.make_child-left.ensures.handed));
-      second_handed = subst (λ (id : ℕ). Every (IsHanded id c.args.depth y) (entries_of r.entry)) after (child_handed _ _ _ r.entry c.make_child-right.ensures.handed);
+      first_handed = subst (λ (id : ℕ). Every (IsEntryUnder id c.args.depth y) (entries_of l.entry)) next
+          (subst (λ (z : MultipliersValue). Every (IsEntryUnder c.len-next.result c.args.depth z) (entries_of l.entry)) c.in_ok-copy.ensures (child_handed _ _ _ l.entry c.make_child-left.ensures.handed));
+      second_handed = subst (λ (id : ℕ). Every (IsEntryUnder id c.args.depth y) (entries_of r.entry)) after (child_handed _ _ _ r.entry c.make_child-right.ensures.handed);
       first_new = c.make_child-left.ensures.node;
       second_new = subst (λ (n : NodeBoxValue). IsNewNode d (child d n.limits c.args.branch Right) (plain_node r.node)) c.make_child-left.ensures.back c.make_child-right.ensures.node;
       after_is =
