@@ -16,3 +16,4 @@ pub mod GridStops
 pub mod Settled
 pub mod Goes
 pub mod KeptRays
+pub mod Begun

@@ -1,8 +1,20 @@
-//! A search between two acts.
+//! A search between two acts, and its beginning.
 
-use um_model::{Point, Solved, Why};
+ghost use Rattle.std.specs.Prelude.{◌≡◌, ℕ, [], None, IfOk};
+ghost use Rattle.um_model.specs.Boxes.{IsVoid, root as root_of};
+ghost use Rattle.um_lp.specs.States.{State};
+ghost use Rattle.um_lp.specs.Boards.{IsBoard, IsStart};
+ghost use Rattle.um_duality.specs.Relaxed.{deck_frame};
+ghost use Rattle.um_loop.specs.Checkables.{AreCheckable};
+ghost use Rattle.um_loop.specs.Goings.{IsGoing};
+
+use std::alloc::Global;
+use um_box::NodeBox;
+use um_children::{key_of, one_and_none};
+use um_deck::Deck;
+use um_model::{Node, Point, Solved, What, Why};
 use um_nodes::{OpenNode, OpenNodes};
-use um_num::{Frac, List};
+use um_num::{Frac, List, Memory};
 use um_progress::Incumbent;
 use um_tree::Growth;
 
@@ -21,6 +33,35 @@ pub struct Search {
     /// A ray of the deck, where the start has shown one: then the search looks for a feasible point alone,
     /// on a board without costs.
     pub ray: Option<List<i128>>,
+}
+
+impl Search {
+    /// A search in which the root waits alone, with the multipliers 1 and none: [`Search::run`] may run it on
+    /// any board that starts, with any number of pivots. For now of decks without arcs. The error is want of
+    /// memory.
+    pub fn new(alloc: Global, deck: &Deck, root: &NodeBox<'_>) -> Result<Search, Memory>
+        requires root { root.now ≡ record { deck = deck.now; limits = root_of deck.now } }
+        requires full { ¬ IsVoid deck.now (root_of deck.now) }
+        requires no_arcs { deck.now.arcs ≡ [] }
+        ensures going { (start : State) (most : ℕ) → IsStart (deck_frame deck.now) start → IsBoard start → IfOk result (λ search. IsGoing deck.now start most None search start most) }
+        ensures checkable { IfOk result (λ search. AreCheckable deck.now search.growth) }
+        ensures solved { IfOk result (λ search. search.solved ≡ 0) }
+    {
+        let what = What::OpenLeaf(one_and_none(alloc));
+        let growth = Growth::new(alloc, Node { solved: None, what })?;
+        let y = one_and_none(alloc);
+        let key = key_of(deck, root, 0, 0, &y);
+        let mut open = OpenNodes::new(alloc);
+        open.put(OpenNode { key, node: 0, y })?;
+        Ok(Search {
+            growth,
+            open,
+            incumbent: None,
+            least: None,
+            solved: 0,
+            ray: None,
+        })
+    }
 }
 
 /// Where a run of the loop ends while nodes may wait.

@@ -36,7 +36,8 @@ use Rattle.um_search.specs.declared.budget.Budget.{Budget}
 use Rattle.um_loop.specs.declared.search.Search.{Search}
 use Rattle.um_search.specs.Told.{IsHaltedLast, IsEndedBy, HasSpentNodes, HasSpentPivots, OpenLeavesAreHanded, HaveOneAndNone, TellsSearch, TellsOf, TellsAnswer}
 use Rattle.um_loop.specs.Checkables.{AreCheckable}
-use Rattle.um_search.specs.Emptying.{IsOver, IsFound, kind_of_over, AreHandedBut, HasHand, IsEmptying}
+use Rattle.um_search.specs.Endings.{HasRunOut, IsFound, kind_of_over}
+use Rattle.um_search.proofs.Emptying.{AreHandedBut, HasHand, IsEmptying}
 use Rattle.um_turns.proofs.Chains.{pivots_all}
 use Rattle.um_search.proofs.SpentPivots.{pivots_spent}
 use Rattle.um_search.proofs.SpentNodes.{none_solved}
@@ -112,7 +113,7 @@ module _ (d : DeckValue) (no_arcs : d.arcs ≡ []) (history : History) (g : Grow
   over_accepted None (Some x) found s = let a = s.closed.among in absurd (unbounded d (box_at d g a.0) (what_at g a.0) (s.nodes a.0 a.1) a.2)
   over_accepted None None found s = infeasible_accepted Turn d (pos 0) history g None tree s (tolerance d no_arcs) told
 
-module _ (d : DeckValue) (formed : IsDeck d) (no_arcs : d.arcs ≡ []) (budget : Budget) (s : Search) (over : IsOver d budget.pivots s) (within : s.solved ≤ budget.nodes) (checkable : AreCheckable d s.growth) (tree : List NodeValue) (told : IsTold s.growth tree) where
+module _ (d : DeckValue) (formed : IsDeck d) (no_arcs : d.arcs ≡ []) (budget : Budget) (s : Search) (over : HasRunOut d budget.pivots s) (within : s.solved ≤ budget.nodes) (checkable : AreCheckable d s.growth) (tree : List NodeValue) (told : IsTold s.growth tree) where
   search : IsSearch Turn d (pos 0) over.ran.going.history None s.growth [] s.incumbent s.least
   search = subst (λ (ws : List OpenNode). IsSearch Turn d (pos 0) over.ran.going.history None s.growth ws s.incumbent s.least) over.ran.none over.ran.going.search
 

@@ -14,20 +14,20 @@ use Rattle.um_progress.specs.Waits.{IsOpenLeaf, IsFresh, id_of}
 use Rattle.um_progress.proofs.Changes.{settle_changes, which, fresh_on}
 use Rattle.um_turns.specs.Histories.{History, IsHanded}
 use Rattle.um_search.specs.Told.{IsOpenStill}
-use Rattle.um_search.specs.Emptying.{AreHandedBut, HasHand}
+use Rattle.um_search.proofs.Emptying.{AreHandedBut, HasHand}
 
 -- an open leaf without a number
-abbrev pub leaf_of : MultipliersValue → NodeValue
-leaf_of y = record { solved = None; what = OpenLeaf y }
+abbrev pub leaf_under : MultipliersValue → NodeValue
+leaf_under y = record { solved = None; what = OpenLeaf y }
 
-open_there : (g : GrowthValue) (id : ℕ) (y : MultipliersValue) → node_at g id ≡ leaf_of y → IsOpenLeaf (what_at g id)
+open_there : (g : GrowthValue) (id : ℕ) (y : MultipliersValue) → node_at g id ≡ leaf_under y → IsOpenLeaf (what_at g id)
 open_there g id y is = subst (λ (n : NodeValue). IsOpenLeaf n.what) (sym is) tt
 
 -- what is put into the tree so is one
-pub fresh_leaf : (g : GrowthValue) (id : ℕ) (y : MultipliersValue) → id < length g.nodes → IsFresh (settled g id (leaf_of y)) id
+pub fresh_leaf : (g : GrowthValue) (id : ℕ) (y : MultipliersValue) → id < length g.nodes → IsFresh (settled g id (leaf_under y)) id
 fresh_leaf g id y inside =
-    let here : node_at (settled g id (leaf_of y)) id ≡ leaf_of y = at_set g.nodes id (leaf_of y) no_node inside in
-    record { inside = omega (arith, inside, length-set g.nodes id (leaf_of y)); open_leaf = open_there (settled g id (leaf_of y)) id y here; solved = ap (λ (n : NodeValue). n.solved) here }
+    let here : node_at (settled g id (leaf_under y)) id ≡ leaf_under y = at_set g.nodes id (leaf_under y) no_node inside in
+    record { inside = omega (arith, inside, length-set g.nodes id (leaf_under y)); open_leaf = open_there (settled g id (leaf_under y)) id y here; solved = ap (λ (n : NodeValue). n.solved) here }
 
 -- where all open leaves are among these ids, no other one is to be told of
 pub none_but : (g : GrowthValue) (history : History) (ids : List ℕ) → ((id : ℕ) → id < length g.nodes → IsOpenLeaf (what_at g id) → IsAmong id ids) → AreHandedBut g history ids
@@ -42,11 +42,11 @@ among_last (v ∷ vs) w id (inr more) = elim (among_last vs w id more) [ inl sam
 
 -- a node of some ids becomes another one, and where that is an open leaf without a number, it has what it was handed
 pub but_on : (d : DeckValue) (g : GrowthValue) (history : History) (id : ℕ) (ids others : List ℕ) (node : NodeValue) → id < length g.nodes → ((j : ℕ) → IsAmong j ids → (j ≡ id) ⊎ IsAmong j others)
-    → ((y : MultipliersValue) → node ≡ leaf_of y → IsHanded history (origin_at g id) y) → AreHandedBut g history ids → AreHandedBut (settled g id node) history others
+    → ((y : MultipliersValue) → node ≡ leaf_under y → IsHanded history (origin_at g id) y) → AreHandedBut g history ids → AreHandedBut (settled g id node) history others
 but_on d g history id ids others node inside one own all j within apart y is = elim (which d g (settled g id node) id (settle_changes d g id node) j) [
   | inl same ↦
       let here : node_at (settled g id node) id ≡ node = at_set g.nodes id node no_node inside in
-      let at : node_at (settled g id node) id ≡ leaf_of y = subst (λ (k : ℕ). node_at (settled g id node) k ≡ leaf_of y) (sym same) is in
+      let at : node_at (settled g id node) id ≡ leaf_under y = subst (λ (k : ℕ). node_at (settled g id node) k ≡ leaf_under y) (sym same) is in
       subst (λ (k : ℕ). IsHanded history (origin_at g k) y) same (own y (sym here ∙ at))
   | inr (inl older) ↦ all j older.0 (λ a. elim (one j a) [ inl e ↦ older.1 (sym e) | inr among ↦ apart among ]) y (sym (elsewhere g.nodes id j node no_node older.1) ∙ is)
   | inr (inr above) ↦ absurd (omega (arith, within, above, length-set g.nodes id node))
@@ -59,13 +59,13 @@ not_among id (j ∷ js) new (inl same) = new.0 same
 not_among id (j ∷ js) new (inr more) = not_among id js new.1 more
 
 -- it becomes an open leaf
-pub hand_here : (d : DeckValue) (best : Option Rational) (g : GrowthValue) (id : ℕ) (y : MultipliersValue) (ids : List ℕ) → id < length g.nodes → AreDistinct (id ∷ ids) → IsOpenStill d best (box_at d g id) y → HasHand d best (settled g id (leaf_of y)) ids
+pub hand_here : (d : DeckValue) (best : Option Rational) (g : GrowthValue) (id : ℕ) (y : MultipliersValue) (ids : List ℕ) → id < length g.nodes → AreDistinct (id ∷ ids) → IsOpenStill d best (box_at d g id) y → HasHand d best (settled g id (leaf_under y)) ids
 hand_here d best g id y ids inside distinct still = record {
   hand = id;
   apart = not_among id ids distinct.0;
   fresh = fresh_leaf g id y inside;
   own = y;
-  own_is = ap (λ (n : NodeValue). n.what) (at_set g.nodes id (leaf_of y) no_node inside);
+  own_is = ap (λ (n : NodeValue). n.what) (at_set g.nodes id (leaf_under y) no_node inside);
   open_still = still;
 }
 

@@ -5,5 +5,5 @@ pub mod OpenLeaves
 pub mod EndlessLeaves
 pub mod PlainLeaves
 pub mod FinalAnswers
-pub mod Begun
 pub mod RunEnds
+pub mod Emptying

@@ -35,12 +35,13 @@ use Rattle.um_loop.specs.Goings.{HasSpent, HaltedAt}
 use Rattle.um_turns.specs.NeededTurns.{IsNeeded}
 use Rattle.um_search.specs.Told.{IsHaltedLast, IsEndedBy}
 use Rattle.um_loop.specs.Checkables.{AreCheckable}
-use Rattle.um_search.specs.Emptying.{AreRising, AreHandedBut, HasHand, IsHalted, IsEmptying}
+use Rattle.um_search.specs.Endings.{IsHalted}
+use Rattle.um_search.proofs.Emptying.{AreRising, AreHandedBut, HasHand, IsEmptying}
 use Rattle.um_loop.proofs.Rising.{Rises, handed_rises, all_rise, kept_rises}
 use Rattle.um_turns.proofs.Bests.{best_stays}
 use Rattle.um_turns.proofs.Turning.{settle_history, settle_turn}
 use Rattle.um_turns.proofs.Waiting.{all_handed_more, handed_last}
-use Rattle.um_search.proofs.HandedLeaves.{leaf_of, none_but, among_last, but_on, hand_here, hand_on, last_is_among, others_are_among}
+use Rattle.um_search.proofs.HandedLeaves.{leaf_under, none_but, among_last, but_on, hand_here, hand_on, last_is_among, others_are_among}
 use Rattle.um_loop.proofs.Checkables.{checkable_on}
 use Rattle.um_loop.proofs.KeysClose.{open_still}
 use Rattle.um_loop.proofs.NeededTurns.{needed_more, needed_on, open_last}
@@ -68,10 +69,10 @@ halted_vertex : (cause : Why) (own : Option MultipliersValue) (p : PointValue) (
 halted_vertex cause own p z e = absurd (cc)
 
 -- ---- the leaf
-leaf_is : (y z : MultipliersValue) → leaf_of y ≡ leaf_of z → y ≡ z
+leaf_is : (y z : MultipliersValue) → leaf_under y ≡ leaf_under z → y ≡ z
 leaf_is y z same = let what : OpenLeaf y ≡ OpenLeaf z = ap (λ (n : NodeValue). n.what) same in cc
 
-no_leaf : (number pivots : ℕ) (w : WhatValue) (z : MultipliersValue) → ¬ (record { solved = Some (record { number = number; pivots = pivots }); what = w } ≡ leaf_of z)
+no_leaf : (number pivots : ℕ) (w : WhatValue) (z : MultipliersValue) → ¬ (record { solved = Some (record { number = number; pivots = pivots }); what = w } ≡ leaf_under z)
 no_leaf number pivots w z same = let none = ap (λ (n : NodeValue). n.solved) same in absurd (cc)
 
 -- ---- the node in hand

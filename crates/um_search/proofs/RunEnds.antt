@@ -8,10 +8,10 @@ use Rattle.um_loop.specs.declared.search.Halt.{Halt}
 use Rattle.um_loop.specs.declared.search.Ending.{Ending}
 use Rattle.um_loop.specs.declared.search.Ending.TheVariants as ending
 use Rattle.um_loop.specs.Goings.{HasRun}
-use Rattle.um_search.specs.Emptying.{IsOver, IsHalted, IsFound}
+use Rattle.um_search.specs.Endings.{HasRunOut, IsHalted, IsFound}
 
 module _ (d : DeckValue) (start : State) (most nodes : ℕ) (led : Option Ending) (s : Search) (board : State) (left : ℕ) (run : HasRun d start most nodes led s board left) where
-  pub over_of : led ≡ None → IsOver d most s
+  pub over_of : led ≡ None → HasRunOut d most s
   over_of is = record { start = start; board = board; left = left; ran = subst (λ (o : Option Ending). HasRun d start most nodes o s board left) is run }
 
   pub halted_of : (h : Halt) → led ≡ Some (ending.Halted h) → IsHalted d most nodes s h

@@ -1,3 +1,3 @@
 pub mod Conditions
-pub mod Emptying
+pub mod Endings
 pub mod Told

@@ -1,66 +1,34 @@
-//! The first and the last act of a search.
+//! The last act of a search: its answer.
 
-ghost use Rattle.std.specs.Prelude.{◌≡◌, ℕ, ◌≤◌, ◌↔◌, [], pos, Some, None, option_map, IsTrue, IfOk};
+ghost use Rattle.std.specs.Prelude.{◌≡◌, ◌≤◌, ◌↔◌, [], pos, Some, None, option_map, IsTrue, IfOk};
 ghost use Rattle.um_multipliers.specs.PlainMultipliers.{plain_multipliers};
 ghost use Rattle.um_model.specs.Accepted.{IsAccepted, bound_in};
 ghost use Rattle.um_model.specs.AnswerValues.{plain_answer, OpenLeaf};
-ghost use Rattle.um_model.specs.Boxes.{IsVoid, root as root_of};
 ghost use Rattle.um_model.specs.Checkable.{IsCheckable};
 ghost use Rattle.um_model.specs.LeafValue.{leaf_value};
 ghost use Rattle.um_model.specs.Right.{IsRight};
 ghost use Rattle.um_model.specs.Values.{plain_point};
 ghost use Rattle.um_model.specs.WellFormed.{IsDeck};
-ghost use Rattle.um_lp.specs.States.{State};
-ghost use Rattle.um_lp.specs.Boards.{IsBoard, IsStart};
-ghost use Rattle.um_duality.specs.Relaxed.{deck_frame};
 ghost use Rattle.um_tree.specs.Growths.{settled};
 ghost use Rattle.um_cover.specs.Sites.{box_at};
 ghost use Rattle.um_progress.specs.Incumbents.{point_of, objective_of};
 ghost use Rattle.um_progress.specs.Stops.{Counts, bound_of as bound_in_all};
 ghost use Rattle.um_progress.specs.Waits.{WaitsIn};
 ghost use Rattle.um_loop.specs.Checkables.{AreCheckable};
-ghost use Rattle.um_search.specs.Emptying.{IsOver, IsHalted, IsFound, kind_of_over};
-ghost use Rattle.um_loop.specs.Goings.{IsGoing};
+ghost use Rattle.um_search.specs.Endings.{HasRunOut, IsHalted, IsFound, kind_of_over};
 ghost use Rattle.um_turns.specs.Turns.{IsNoGrid};
 ghost use Rattle.um_search.specs.Told.{TellsAnswer};
 
 use crate::budget::Budget;
 use std::alloc::Global;
 use um_bound::bound_of;
-use um_box::NodeBox;
-use um_children::{key_of, one_and_none};
 use um_deck::Deck;
 use um_loop::{Halt, Search, is_endless, lesser};
 use um_model::{Answer, AnswerKind, Node, Point, Solved, Tree, What};
-use um_nodes::{OpenNode, OpenNodes};
+use um_nodes::OpenNode;
 use um_num::{Frac, Memory};
 use um_progress::Incumbent;
 use um_tree::Growth;
-
-/// A search in which the root waits alone, with the multipliers 1 and none. The error is want of memory.
-pub(crate) fn begin(alloc: Global, deck: &Deck, root: &NodeBox<'_>) -> Result<Search, Memory>
-    requires root { root.now ≡ record { deck = deck.now; limits = root_of deck.now } }
-    requires full { ¬ IsVoid deck.now (root_of deck.now) }
-    requires no_arcs { deck.now.arcs ≡ [] }
-    ensures going { (start : State) (most : ℕ) → IsStart (deck_frame deck.now) start → IsBoard start → IfOk result (λ search. IsGoing deck.now start most None search start most) }
-    ensures checkable { IfOk result (λ search. AreCheckable deck.now search.growth) }
-    ensures solved { IfOk result (λ search. search.solved ≡ 0) }
-{
-    let what = What::OpenLeaf(one_and_none(alloc));
-    let growth = Growth::new(alloc, Node { solved: None, what })?;
-    let y = one_and_none(alloc);
-    let key = key_of(deck, root, 0, 0, &y);
-    let mut open = OpenNodes::new(alloc);
-    open.put(OpenNode { key, node: 0, y })?;
-    Ok(Search {
-        growth,
-        open,
-        incumbent: None,
-        least: None,
-        solved: 0,
-        ray: None,
-    })
-}
 
 /// The answer of a search in which no node waits: Optimal where a point was found, else Infeasible. The
 /// error is want of memory.
@@ -72,7 +40,7 @@ pub(crate) fn finish(
 ) -> Result<Answer, Memory>
     requires formed { IsDeck deck.now }
     requires no_arcs { deck.now.arcs ≡ [] }
-    requires over { IsOver deck.now budget.pivots search }
+    requires run_out { HasRunOut deck.now budget.pivots search }
     requires within { search.solved ≤ budget.nodes }
     requires checkable { AreCheckable deck.now search.growth }
     ensures accepted { IfOk result (λ answer. IsAccepted deck.now (plain_answer answer)) }

@@ -13,11 +13,11 @@ ghost use Rattle.um_search.specs.Conditions.{IsSearched, IsBudget};
 ghost use Rattle.um_search.specs.Told.{TellsAnswer};
 
 use crate::budget::Budget;
-use crate::ends::{begin, finish, stop, unbounded};
+use crate::ends::{finish, stop, unbounded};
 use std::alloc::Global;
 use um_box::NodeBox;
 use um_deck::Deck;
-use um_loop::Ending;
+use um_loop::{Ending, Search};
 use um_lp::Board;
 use um_model::Answer;
 use um_num::Memory;
@@ -81,7 +81,7 @@ fn search_on<B: Board>(
 {
     deck.known();
     let root = NodeBox::root(alloc, deck)?;
-    let mut search = begin(alloc, deck, &root)?;
+    let mut search = Search::new(alloc, deck, &root)?;
     let mut left = budget.pivots;
     let ending = search.run(alloc, deck, relaxation, board, budget.nodes, &mut left)?;
     match ending {

@@ -1,5 +1,5 @@
 use Rattle.std.proofs.Common.{length}
-use Rattle.um_search.specs.Emptying.{IsEmptying}
+use Rattle.um_search.proofs.Emptying.{IsEmptying}
 use Rattle.um_search.proofs.ends.stop.Given as goal
 
 abbrev pub invariant-entries : goal.invariant-entries

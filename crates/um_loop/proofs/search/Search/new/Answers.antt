@@ -4,8 +4,8 @@ use Rattle.um_model.specs.Boxes.{BoxValue, IsVoid, root}
 use Rattle.um_model.specs.LeafValue.{leaf_value}
 use Rattle.um_nodes.specs.declared.open_nodes.OpenNode.{OpenNode}
 use Rattle.um_progress.specs.Waits.{KeyIs}
-use Rattle.um_search.proofs.Begun.{one_usable, one_positive, root_key, began, began_checkable}
-use Rattle.um_search.proofs.ends.begin.Goals as goal
+use Rattle.um_loop.proofs.Begun.{one_usable, one_positive, root_key, began, began_checkable}
+use Rattle.um_loop.proofs.search.Search.new.Goals as goal
 
 pub key_of-key-requires-clause-not_void : goal.key_of-key-requires-clause-not_void
 key_of-key-requires-clause-not_void c =

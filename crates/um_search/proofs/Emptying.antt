@@ -1,11 +1,9 @@
--- A search that is over, and what holds while the open nodes of one that stopped early get their multipliers.
-use Rattle.std.specs.Prelude.{◌≡◌, ℕ, ◌<◌, ◌≤◌, pos, Bool, List, length, map, Option, Some, None, IsSome, IsNone}
+-- What holds while the open nodes of a search that stopped early get their multipliers.
+use Rattle.std.specs.Prelude.{◌≡◌, ℕ, ◌<◌, ◌≤◌, pos, Bool, List, length, map, Option, Some, IsSome, IsNone}
 use Rattle.um_laws.specs.Rational.{Rational}
 use Rattle.um_multipliers.specs.PlainMultipliers.{MultipliersValue, plain_multipliers}
 use Rattle.um_multipliers.specs.NormalForm.{HasRisingRows}
-use Rattle.um_model.specs.Values.{DeckValue, PointValue}
-use Rattle.um_model.specs.declared.answer.AnswerKind.{AnswerKind}
-use Rattle.um_model.specs.declared.answer.AnswerKind.TheVariants.{Optimal, Infeasible as HasNone}
+use Rattle.um_model.specs.Values.{DeckValue}
 use Rattle.um_model.specs.declared.answer.Why.{Why}
 use Rattle.um_model.specs.declared.answer.Why.TheVariants as why
 use Rattle.um_lp.specs.States.{State}
@@ -21,10 +19,7 @@ use Rattle.um_progress.specs.Lineage.{IsLineage}
 use Rattle.um_turns.specs.Turns.{Turn}
 use Rattle.um_turns.specs.Histories.{History, IsHistory, AreHanded, IsBest, ray_of}
 use Rattle.um_search.specs.declared.budget.Budget.{Budget}
-use Rattle.um_loop.specs.declared.search.Search.{Search}
-use Rattle.um_loop.specs.declared.search.Halt.{Halt}
 use Rattle.um_loop.specs.Checkables.{AreCheckable}
-use Rattle.um_loop.specs.Goings.{RanOut, HasStopped, HasFound}
 use Rattle.um_turns.specs.UnnumberedNodes.{AreUnnumbered}
 use Rattle.um_turns.specs.NeededTurns.{AreNeeded}
 use Rattle.um_search.specs.Told.{IsEndedBy, IsHandedLeaf, IsOpenStill}
@@ -32,30 +27,6 @@ use Rattle.um_search.specs.Told.{IsEndedBy, IsHandedLeaf, IsOpenStill}
 -- the multipliers of each entry are of rows of the deck, in rising order
 abbrev pub AreRising : DeckValue → List OpenNode → Type 0
 AreRising d waiting = Every (λ (w : OpenNode). HasRisingRows (length d.rows) (plain_multipliers w.y).rows) waiting
-
--- a search with so many pivots, begun on some board, in which no node waits any more
-pub record IsOver (d : DeckValue) (pivots : ℕ) (s : Search) : Type 0 where
-  pub start : State
-  pub board : State
-  pub left : ℕ
-  pub ran : RanOut d start pivots s board left
-
--- the kind of its answer
-abbrev pub kind_of_over : Option Incumbent → AnswerKind
-kind_of_over None = HasNone
-kind_of_over (Some i) = Optimal
-
--- a search with so many pivots, begun on some board, that found this point of a deck with a ray
-pub record IsFound (d : DeckValue) (pivots : ℕ) (s : Search) (p : PointValue) : Type 0 where
-  pub start : State
-  pub found : HasFound d start pivots s p
-
--- a search with so many pivots and nodes, begun on some board, that stopped early
-pub record IsHalted (d : DeckValue) (pivots nodes : ℕ) (s : Search) (halt : Halt) : Type 0 where
-  pub start : State
-  pub board : State
-  pub left : ℕ
-  pub stopped : HasStopped d start pivots nodes s halt board left
 
 -- the open leaves without a number, but for those of these ids, have the multipliers that they were handed
 abbrev pub AreHandedBut : GrowthValue → History → List ℕ → Type 0
