@@ -20,8 +20,8 @@
 # one after the other in one folder.
 #
 # Of each deck in examples/ and examples/other-programs/ the report of `solve` is compared with the
-# file .report beside it and the tree with the file .tree, if there is one, and `check` must accept
-# the tree.
+# file .report beside it, the tree with the file .tree, if there is one, and the answer and the
+# counts with its row in examples/INDEX.md; and `check` must accept the tree.
 
 if [ $# -ne 1 ] || [ ! -x "$1" ] || [ -d "$1" ]; then
     echo "usage: docs/outputs.sh PROGRAM" >&2
@@ -101,6 +101,21 @@ script_of() {
     ' "$1"
 }
 
+# index_row DECK REPORT TREE: what the row of a deck in examples/INDEX.md says between what it shows
+# and its time: answer, rows, columns, nodes, pivots.
+index_row() {
+    if [ -f "$3" ]; then
+        awk 'NR == FNR { if ($1 == "DECK") size = $(NF - 3) " | " $(NF - 2); next }
+            FNR == 1 { answer = $0 }
+            $1 == "objective" && $2 != "none" { answer = answer " " $2 }
+            $1 == "nodes" { nodes = $2 }
+            $1 == "pivots" { pivots = $2 }
+            END { print " " answer " | " size " | " nodes " | " pivots " " }' "$3" "$2"
+    else
+        echo " \`$(cat "$2")\` | - | - | - | - "
+    fi
+}
+
 fresh() {
     rm -rf "$work/cut" "$work/run"
     mkdir "$work/cut" "$work/run"
@@ -165,6 +180,11 @@ for deck in examples/*.mps examples/other-programs/*.mps; do
         fail "$deck" "no report stands beside it"
     fi
     if [ -f "$name.tree" ]; then differ "$name.tree" "$name.tree" tree; fi
+    if [ -f examples/INDEX.md ]; then
+        index_row "$deck" "$work/written" tree >"$work/row"
+        grep -F "| \`${deck#examples/}\` |" examples/INDEX.md | cut -d '|' -f 4-8 >"$work/said"
+        differ "examples/INDEX.md, $deck" "$work/said" "$work/row"
+    fi
     if [ -f tree ]; then
         echo yes >"$work/yes"
         umpire check "$deck" tree >"$work/written" 2>/dev/null
