@@ -18,8 +18,6 @@ mod products;
 mod quotients;
 mod short;
 mod sums;
-#[cfg(test)]
-mod tests;
 mod whole;
 mod wide;
 

@@ -7,7 +7,5 @@
 #![tactic(auto)]
 
 pub mod multipliers;
-#[cfg(test)]
-mod tests;
 
 pub use multipliers::{Multipliers, Price};
