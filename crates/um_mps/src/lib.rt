@@ -18,7 +18,5 @@ mod place;
 mod reader;
 mod rows;
 mod sets;
-#[cfg(test)]
-mod tests;
 
 pub use reader::{ReadFault, read};

@@ -18,8 +18,6 @@ mod memory_sink;
 mod sink;
 mod standard;
 mod stored;
-#[cfg(test)]
-mod tests;
 mod whole_file;
 
 pub use asked::Access;

@@ -24,6 +24,3 @@ pub use um_model::{Reason, Verdict};
 pub use um_mps::ReadFault;
 pub use um_statements::Fault;
 pub use um_treetext::{TreeFault, TreeWord};
-
-#[cfg(test)]
-mod tests;

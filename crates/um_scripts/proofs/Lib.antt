@@ -1,2 +1,0 @@
-pub mod RootIntervals
-pub mod SomeColumn

@@ -1,6 +1,0 @@
-use Rattle.std.proofs.Common.{ℕ, ◌<◌, ℤ, get_or}
-use Rattle.um_point.specs.SmallPoints.{IsSmall}
-use Rattle.um_scripts.proofs.tests.points.are_small.Given as goal
-
-abbrev pub invariant-loop-part : goal.invariant-loop-part
-invariant-loop-part l = (k : ℕ) (d : ℤ) → k < l.part-index → IsSmall (get_or l.parts k d)
