@@ -6,6 +6,7 @@ use Rattle.um_multipliers.specs.PlainMultipliers.{MultipliersValue}
 use Rattle.um_model.specs.Boxes.{BoxValue}
 use Rattle.um_model.specs.WellFormed.{IsWithin}
 use Rattle.um_model.specs.LeafValue.{least, curve_between, linear_least, arc_least, is_endless_column, total}
+use Rattle.um_model.specs.declared.limits.TheConstants.{MOST_COLUMNS, MOST_COEFFICIENT, MOST_END, MULTIPLIER_SIZE}
 use Rattle.um_bound.specs.declared.columns.ColumnPart.{ColumnPart}
 use Rattle.um_bound.specs.declared.columns.ColumnPart.TheVariants.{Linear, Curved, Endless}
 use Rattle.um_bound.specs.declared.columns.ColumnSums.{ColumnSums}
@@ -13,7 +14,7 @@ use Rattle.um_bound.specs.declared.curves.Curve.{Curve}
 
 -- the most that a column without an arc adds in size, in thousandths
 abbrev pub most_linear : ℕ
-most_linear = 513 * (2 ^ 40 * 2 ^ 31) * 10 ^ 10
+most_linear = 513 * (MULTIPLIER_SIZE * MOST_COEFFICIENT) * MOST_END
 
 -- the most that a column with an arc adds in size, in millionths
 abbrev pub most_curved : ℕ
@@ -47,6 +48,6 @@ IsPartOf d b y c Endless = is_endless_column d b y c ≡ true
 -- the sums of what the columns add, each over all columns
 pub record AreColumnSums (d : DeckValue) (b : BoxValue) (y : MultipliersValue) (sums : ColumnSums) : Type 0 where
   pub linear : sums.linear ≡ total (linear_least d b y) (enumerate_from 0 d.columns)
-  pub linear_size : IsWithin (4096 * most_linear) sums.linear
+  pub linear_size : IsWithin (MOST_COLUMNS * most_linear) sums.linear
   pub curved : sums.curved ≡ total (arc_least d b y) (enumerate_from 0 d.columns)
-  pub curved_size : IsWithin (4096 * most_curved) sums.curved
+  pub curved_size : IsWithin (MOST_COLUMNS * most_curved) sums.curved

@@ -3,6 +3,7 @@
 ghost use Rattle.std.specs.Prelude.{◌≡◌, ◌-◌, ◌*◌, ◌^◌, ◌*ℤ◌, ◌≤ℤ◌, ◌<ℤ◌, ◌≤◌, pos, unsigned_abs};
 ghost use Rattle.um_model.specs.WellFormed.{IsWithin};
 ghost use Rattle.um_model.specs.LeafValue as LeafValue;
+ghost use Rattle.um_model.specs.declared.limits.TheConstants.{MOST_COEFFICIENT, MOST_ARC, MOST_ARC_END, MULTIPLIER_SIZE};
 ghost use Rattle.um_bound.specs.Curves.{IsSmallCurve};
 
 use um_num::floor_div;
@@ -19,9 +20,9 @@ impl Curve {
     /// What the curve's linear part is at a value in thousandths.
     fn linear_at(&self, x: i128) -> i128
         requires small { IsSmallCurve self.now }
-        requires value { IsWithin 8000000 x }
+        requires value { IsWithin MOST_ARC_END x }
         ensures value { result ≡ pos 1000 *ℤ self.now.linear *ℤ x }
-        ensures size { IsWithin (1000 * (513 * (2 ^ 40 * 2 ^ 31)) * 8000000) result }
+        ensures size { IsWithin (1000 * (513 * (MULTIPLIER_SIZE * MOST_COEFFICIENT)) * MOST_ARC_END) result }
     {
         1000 * self.linear * x
     }
@@ -29,9 +30,9 @@ impl Curve {
     /// What the curve's square part is at a value in thousandths.
     fn square_at(&self, x: i128) -> i128
         requires small { IsSmallCurve self.now }
-        requires value { IsWithin 8000000 x }
+        requires value { IsWithin MOST_ARC_END x }
         ensures value { result ≡ self.now.square *ℤ (x *ℤ x) }
-        ensures size { IsWithin (2 ^ 40 * 2 ^ 24 * (8000000 * 8000000)) result }
+        ensures size { IsWithin (MULTIPLIER_SIZE * MOST_ARC * (MOST_ARC_END * MOST_ARC_END)) result }
     {
         self.square * (x * x)
     }
@@ -39,7 +40,7 @@ impl Curve {
     /// The curve at a value in thousandths.
     fn at(&self, x: i128) -> i128
         requires small { IsSmallCurve self.now }
-        requires value { IsWithin 8000000 x }
+        requires value { IsWithin MOST_ARC_END x }
         ensures value { result ≡ LeafValue.curve self.now.linear self.now.square x }
         ensures size { IsWithin (2 ^ 114 - 2 ^ 63) result }
     {
@@ -49,7 +50,7 @@ impl Curve {
     /// Half of the curve's slope at a value in thousandths.
     fn half_slope(&self, x: i128) -> i128
         requires small { IsSmallCurve self.now }
-        requires value { IsWithin 8000000 x }
+        requires value { IsWithin MOST_ARC_END x }
         ensures value { result ≡ LeafValue.half_slope self.now.linear self.now.square x }
     {
         500 * self.linear + self.square * x
@@ -59,13 +60,13 @@ impl Curve {
     /// whose vertex lies between these ends; of two the lower.
     fn nearest(&self, low: i128, high: i128) -> i128
         requires small { IsSmallCurve self.now }
-        requires low { IsWithin 8000000 low }
-        requires high { IsWithin 8000000 high }
+        requires low { IsWithin MOST_ARC_END low }
+        requires high { IsWithin MOST_ARC_END high }
         requires upwards { pos 0 <ℤ self.now.square }
         requires falls { LeafValue.half_slope self.now.linear self.now.square low <ℤ pos 0 }
         requires rises { pos 0 <ℤ LeafValue.half_slope self.now.linear self.now.square high }
         ensures value { result ≡ LeafValue.nearest self.now.linear (unsigned_abs self.now.square) }
-        ensures size { IsWithin 8000000 result }
+        ensures size { IsWithin MOST_ARC_END result }
     {
         -floor_div(1000 * self.linear + self.square, 2 * self.square)
     }
@@ -89,8 +90,8 @@ impl Curve {
     /// ends.
     fn near_vertex(&self, low: i128, high: i128) -> i128
         requires small { IsSmallCurve self.now }
-        requires low { IsWithin 8000000 low }
-        requires high { IsWithin 8000000 high }
+        requires low { IsWithin MOST_ARC_END low }
+        requires high { IsWithin MOST_ARC_END high }
         requires upwards { pos 0 <ℤ self.now.square }
         requires falls { LeafValue.half_slope self.now.linear self.now.square low <ℤ pos 0 }
         requires rises { pos 0 <ℤ LeafValue.half_slope self.now.linear self.now.square high }
@@ -105,8 +106,8 @@ impl Curve {
     /// at most a quarter of the square.
     pub(crate) fn least(&self, low: i128, high: i128) -> i128
         requires small { IsSmallCurve self.now }
-        requires low { IsWithin 8000000 low }
-        requires high { IsWithin 8000000 high }
+        requires low { IsWithin MOST_ARC_END low }
+        requires high { IsWithin MOST_ARC_END high }
         ensures value { result ≡ LeafValue.curve_least self.now.linear self.now.square low high }
         ensures size { IsWithin (2 ^ 114) result }
     {

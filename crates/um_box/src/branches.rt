@@ -1,8 +1,9 @@
 //! Branches of a box: when one fits, what its children are, and how they are entered and left.
 
-ghost use Rattle.std.specs.Prelude.{◌≡◌, ◌<◌, ◌^◌, ◌↔◌, IfOk, IsTrue};
+ghost use Rattle.std.specs.Prelude.{◌≡◌, ◌<◌, ◌↔◌, IfOk, IsTrue};
 ghost use Rattle.um_model.specs.WellFormed.{IsWithin, has_arc};
 ghost use Rattle.um_model.specs.Branches.{Fits, threshold_of, FitsInt, FitsCut, FitsSemi, FitsOne, FitsTwo};
+ghost use Rattle.um_model.specs.declared.limits.TheConstants.{MOST_END};
 ghost use Rattle.um_box.specs.NodeBoxes.{entered};
 ghost use Rattle.um_box.specs.Undos.{undone, Belongs, Undoes};
 
@@ -128,7 +129,7 @@ impl<'d> NodeBox<'d> {
     /// The threshold of a semicontinuous column, in thousandths.
     fn threshold(&self, column: u32) -> i64
         ensures value { result ≡ threshold_of self.now.deck column }
-        ensures size { IsWithin (10 ^ 10) result }
+        ensures size { IsWithin MOST_END result }
     {
         self.deck().known();
         match self.kind(column) {

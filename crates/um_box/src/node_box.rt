@@ -1,6 +1,6 @@
 //! The box of a node of a branch and bound tree.
 
-ghost use Rattle.std.specs.Prelude.{◌≡◌, ◌<◌, ◌≤◌, ◌^◌, ◌-◌, ◌↔◌, nat_lt, true, map, length, slice_index, Some, IfOk, IsTrue, replicate};
+ghost use Rattle.std.specs.Prelude.{◌≡◌, ◌<◌, ◌≤◌, ◌-◌, ◌↔◌, nat_lt, true, map, length, slice_index, Some, IfOk, IsTrue, replicate};
 ghost use Rattle.std.specs.Option.{MatchOption, ForSome};
 ghost use Rattle.um_model.specs.Values.{plain_column, plain_set, SetValue};
 ghost use Rattle.um_model.specs.WellFormed.{AtPlace, IsWithin, has_arc};
@@ -10,6 +10,7 @@ ghost use Rattle.um_box.specs.NodeBoxes.{HasCurveEnds, put_ends, put_first, put_
 ghost use Rattle.um_box.specs.Undos.{undone, Belongs, Undoes};
 ghost use Rattle.um_model.specs.declared.deck.Column.{Column};
 ghost use Rattle.um_model.specs.declared.deck.OrderedSet.{OrderedSet};
+ghost use Rattle.um_model.specs.declared.limits.TheConstants.{MOST_END, MOST_ARC_END};
 
 use crate::comparisons::is_crossed;
 use crate::counts::{move_first, move_last};
@@ -165,8 +166,8 @@ impl<'d> NodeBox<'d> {
     /// Gives a column other ends.
     pub(crate) fn put_ends(&mut self, column: u32, ends: Ends) -> Undo
         requires inside { column < length self.old.deck.columns }
-        requires low { ForSome ends.low (IsWithin (10 ^ 10)) }
-        requires high { ForSome ends.high (IsWithin (10 ^ 10)) }
+        requires low { ForSome ends.low (IsWithin MOST_END) }
+        requires high { ForSome ends.high (IsWithin MOST_END) }
         requires curve { has_arc self.old.deck.arcs column ≡ true → HasCurveEnds ends }
         ensures node { self.new ≡ put_ends self.old column ends }
         ensures undo { Undoes result self.old self.new }
@@ -182,8 +183,8 @@ impl<'d> NodeBox<'d> {
     /// Gives a column another low end.
     pub(crate) fn put_low(&mut self, column: u32, low: i64) -> Undo
         requires inside { column < length self.old.deck.columns }
-        requires size { IsWithin (10 ^ 10) low }
-        requires curve { has_arc self.old.deck.arcs column ≡ true → IsWithin 8000000 low }
+        requires size { IsWithin MOST_END low }
+        requires curve { has_arc self.old.deck.arcs column ≡ true → IsWithin MOST_ARC_END low }
         ensures node { self.new ≡ put_ends self.old column (record { low = Some low; high = (ends_at self.old.limits column).high }) }
         ensures undo { Undoes result self.old self.new }
     {
@@ -199,8 +200,8 @@ impl<'d> NodeBox<'d> {
     /// Gives a column another high end.
     pub(crate) fn put_high(&mut self, column: u32, high: i64) -> Undo
         requires inside { column < length self.old.deck.columns }
-        requires size { IsWithin (10 ^ 10) high }
-        requires curve { has_arc self.old.deck.arcs column ≡ true → IsWithin 8000000 high }
+        requires size { IsWithin MOST_END high }
+        requires curve { has_arc self.old.deck.arcs column ≡ true → IsWithin MOST_ARC_END high }
         ensures node { self.new ≡ put_ends self.old column (record { low = (ends_at self.old.limits column).low; high = Some high }) }
         ensures undo { Undoes result self.old self.new }
     {

@@ -1,5 +1,5 @@
 -- What holds of a node in its box while a search goes on, and when it has ended.
-use Rattle.std.specs.Prelude.{ℕ, ◌<◌, ◌^◌, ℤ, pos, ◌<ℤ◌, ◌⊎◌, List, length, Contains, Option, Some, None, IsSomeAnd, ⊤}
+use Rattle.std.specs.Prelude.{ℕ, ◌<◌, ℤ, pos, ◌<ℤ◌, ◌⊎◌, List, length, Contains, Option, Some, None, IsSomeAnd, ⊤}
 use Rattle.std.specs.Option.{ForSome}
 use Rattle.um_laws.specs.Rational.{Rational}
 use Rattle.um_model.specs.Values.{DeckValue}
@@ -11,20 +11,21 @@ use Rattle.um_model.specs.declared.answer.AnswerKind.{AnswerKind}
 use Rattle.um_multipliers.specs.PlainMultipliers.{MultipliersValue}
 use Rattle.um_multipliers.specs.Sizes.{AreBelow}
 use Rattle.um_model.specs.AnswerValues.{WhatValue, Split, Bounded, Empty, Void, OpenLeaf}
+use Rattle.um_model.specs.declared.limits.TheConstants.{MULTIPLIER_SIZE}
 use Rattle.um_tree.specs.Growths.{GrowthValue, what_at}
 use Rattle.um_cover.specs.Sites.{box_at}
 
 -- these multipliers close the box at the incumbent's objective
 pub record BoundedIs (d : DeckValue) (incumbent : Option Rational) (tolerance : ℤ) (b : BoxValue) (y : MultipliersValue) : Type 0 where
   pub full : ¬ IsVoid d b
-  pub small : AreBelow (2 ^ 40) y
+  pub small : AreBelow MULTIPLIER_SIZE y
   pub sign : SignHolds d b y
   pub closes : IsSomeAnd incumbent (λ v. Closes d b y v tolerance)
 
 -- these multipliers show that the box has no feasible point
 pub record EmptyIs (d : DeckValue) (b : BoxValue) (y : MultipliersValue) : Type 0 where
   pub full : ¬ IsVoid d b
-  pub small : AreBelow (2 ^ 40) y
+  pub small : AreBelow MULTIPLIER_SIZE y
   pub sign : SignHolds d b y
   pub empties : Empties d b y
 
@@ -36,7 +37,7 @@ pub record VoidIs (d : DeckValue) (b : BoxValue) (column : ℕ) : Type 0 where
 -- these multipliers bound the box
 pub record OpenIs (d : DeckValue) (b : BoxValue) (y : MultipliersValue) : Type 0 where
   pub full : ¬ IsVoid d b
-  pub small : AreBelow (2 ^ 40) y
+  pub small : AreBelow MULTIPLIER_SIZE y
   pub y0 : pos 0 <ℤ y.y0
 
 -- what holds of a node in its box, with the incumbent's objective so far

@@ -3,6 +3,7 @@ use Rattle.std.specs.Prelude.{map}
 use Rattle.um_model.specs.Values.{DeckValue, plain_column, plain_set}
 use Rattle.um_deck.specs.declared.deck.DeckParts.{DeckParts}
 
+-- the deck of the parts that the program holds, field by field
 abbrev pub deck_of : DeckParts → DeckValue
 deck_of parts = record {
   name = parts.name;

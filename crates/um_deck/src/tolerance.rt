@@ -5,14 +5,15 @@ ghost use Rattle.um_laws.specs.Sums.{sum_of};
 ghost use Rattle.um_model.specs.Rounding.{ceil_div};
 ghost use Rattle.um_model.specs.WellFormed.{IsWithin};
 ghost use Rattle.um_model.specs.declared.deck.Arc.{Arc};
+ghost use Rattle.um_model.specs.declared.limits.TheConstants.{MOST_COLUMNS, MOST_SCALE, MOST_ARC};
 
 use crate::Arc;
 use um_num::{floor_div, power_of_ten};
 
 /// The size of an arc's value in natural size, in millionths. The scale is that of its row.
 fn arc_size(arc: &Arc, scale: u8) -> i128
-    requires scale { scale ≤ 6 }
-    requires value { IsWithin (2 ^ 24) arc.now.value }
+    requires scale { scale ≤ MOST_SCALE }
+    requires value { IsWithin MOST_ARC arc.now.value }
     ensures value { result ≡ pos (unsigned_abs arc.now.value * 10 ^ (6 - scale)) }
     ensures size { IsWithin (2 ^ 44) result }
 {
@@ -21,9 +22,9 @@ fn arc_size(arc: &Arc, scale: u8) -> i128
 
 /// The sum of the sizes of arcs of one row, in millionths. They are no more than a deck has columns.
 pub fn size_sum(arcs: &[Arc], scale: u8) -> i128
-    requires scale { scale ≤ 6 }
-    requires few { length arcs.now ≤ 4096 }
-    requires values { All (λ (a : Arc). IsWithin (2 ^ 24) a.value) arcs.now }
+    requires scale { scale ≤ MOST_SCALE }
+    requires few { length arcs.now ≤ MOST_COLUMNS }
+    requires values { All (λ (a : Arc). IsWithin MOST_ARC a.value) arcs.now }
     ensures value { result ≡ sum_of (λ (a : Arc). pos (unsigned_abs a.value * 10 ^ (6 - scale))) arcs.now }
     ensures size { IsWithin (2 ^ 56) result }
 {

@@ -6,6 +6,7 @@ use Rattle.std.specs.List.{find}
 use Rattle.um_num.specs.declared.decimal.Decimal.{Decimal}
 use Rattle.um_model.specs.Values.{ColumnValue}
 use Rattle.um_model.specs.declared.deck.Entry.{Entry as DeckEntry}
+use Rattle.um_model.specs.declared.limits.TheConstants.{MOST_ARC_END}
 use Rattle.um_statements.specs.declared.fault.Fault.TheVariants.{TooLarge, SemiLower, CrossedBounds, NotFinite, LowerNotZero, ArcInSet}
 use Rattle.um_statements.specs.declared.parts.Ends.{Ends}
 use Rattle.um_statements.specs.declared.parts.EntryPart.{EntryPart}
@@ -25,7 +26,7 @@ entry_at row entries = option_map (λ (e : EntryPart). e.value) (find (λ (e : E
 -- the rules of a column that is a member or not, and has a kept arc or not
 abbrev pub rules_of_column : (member arc : Bool) → Ends → List Rule
 rules_of_column member arc ends =
-    (arc && (is_above 8000000 (low_end ends) || is_above 8000000 (high_end ends)), TooLarge)
+    (arc && (is_above MOST_ARC_END (low_end ends) || is_above MOST_ARC_END (high_end ends)), TooLarge)
     ∷ (ends.semi && is_below_zero_or_none (threshold ends), SemiLower)
     ∷ (are_crossed (low_end ends) (high_end ends) || (ends.semi && are_crossed (threshold ends) (high_end ends)), CrossedBounds)
     ∷ ((ends.integer || ends.semi || member || arc) && (is_none (low_end ends) || is_none (high_end ends)), NotFinite)

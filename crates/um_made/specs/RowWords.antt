@@ -1,5 +1,5 @@
 -- A row by itself: its scale and its sides, from the numbers that stand in it.
-use Rattle.std.specs.Prelude.{◌≡◌, ℕ, ◌<◌, ◌≤◌, ◌^◌, ℤ, unsigned_abs, Bool, false, ◌||◌, not, nat_lt, List, [], ◌∷◌, ◌++◌, length, slice_index_or, flat_map, Option, Some, None, if◌then◌else◌}
+use Rattle.std.specs.Prelude.{◌≡◌, ℕ, ◌<◌, ◌≤◌, ℤ, unsigned_abs, Bool, false, ◌||◌, not, nat_lt, List, [], ◌∷◌, ◌++◌, length, slice_index_or, flat_map, Option, Some, None, if◌then◌else◌}
 use Rattle.std.specs.List.{list_all}
 use Rattle.um_num.specs.declared.decimal.Decimal.{Decimal}
 use Rattle.um_statements.specs.declared.fault.Fault.TheVariants.{TooFine, TooLarge}
@@ -13,6 +13,7 @@ use Rattle.um_made.specs.declared.sides.Sides.{Sides}
 use Rattle.um_made.specs.declared.rows.Objective.{Objective}
 use Rattle.um_made.specs.declared.rows.Scaled.{Scaled}
 use Rattle.um_made.specs.declared.rows.SidedRow.{SidedRow}
+use Rattle.um_model.specs.declared.limits.TheConstants.{MOST_SCALE, MOST_SIDE, MOST_COEFFICIENT, MOST_ARC}
 
 -- ---- one row
 
@@ -27,29 +28,29 @@ range_taken r scale = if is_n r.kind then None else range_at r scale
 -- a side above 2^53, scaled
 abbrev pub has_large_side : RowSaid → ℕ → Bool
 has_large_side r scale =
-    is_above (2 ^ 53) (Some (side_at r scale))
-    || (is_above (2 ^ 53) (low_side r.kind (side_at r scale) (range_at r scale))
-    || is_above (2 ^ 53) (high_side r.kind (side_at r scale) (range_at r scale)))
+    is_above MOST_SIDE (Some (side_at r scale))
+    || (is_above MOST_SIDE (low_side r.kind (side_at r scale) (range_at r scale))
+    || is_above MOST_SIDE (high_side r.kind (side_at r scale) (range_at r scale)))
 
 -- the same rules as for the row of a deck
 abbrev pub rules_of_row : List Decimal → List Decimal → RowSaid → List Rule
 rules_of_row numbers arcs r =
     let scale = scale_of numbers arcs r in
-    (nat_lt 6 scale, TooFine)
+    (nat_lt MOST_SCALE scale, TooFine)
     ∷ (
-      not (list_all (is_within_at (2 ^ 31) scale) numbers)
-          || not (list_all (is_within_at (2 ^ 24) scale) arcs)
-          || is_above (2 ^ 53) (Some (side_at r scale))
-          || is_above (2 ^ 53) (low_side r.kind (side_at r scale) (range_at r scale))
-          || is_above (2 ^ 53) (high_side r.kind (side_at r scale) (range_at r scale)),
+      not (list_all (is_within_at MOST_COEFFICIENT scale) numbers)
+          || not (list_all (is_within_at MOST_ARC scale) arcs)
+          || is_above MOST_SIDE (Some (side_at r scale))
+          || is_above MOST_SIDE (low_side r.kind (side_at r scale) (range_at r scale))
+          || is_above MOST_SIDE (high_side r.kind (side_at r scale) (range_at r scale)),
       TooLarge,
     ) ∷ []
 
 -- this is the right-hand side of the row at the scale, and not too large
 pub record IsSide (r : RowSaid) (scale : ℕ) (z : ℤ) : Type 0 where
   pub is : z ≡ side_at r scale
-  pub within : unsigned_abs z ≤ 2 ^ 53
-  pub fine : is_above (2 ^ 53) (Some (side_at r scale)) ≡ false
+  pub within : unsigned_abs z ≤ MOST_SIDE
+  pub fine : is_above MOST_SIDE (Some (side_at r scale)) ≡ false
 
 -- these are the sides of the row at the scale
 pub record AreSides (r : RowSaid) (scale : ℕ) (s : Sides) : Type 0 where

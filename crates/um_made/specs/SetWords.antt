@@ -1,10 +1,11 @@
 -- Members of sets with their weights.
-use Rattle.std.specs.Prelude.{◌≡◌, ◌⊎◌, ℕ, ◌≤◌, ◌^◌, ◌*◌, ℤ, int_le, Bool, true, false, ◌&&◌, ◌||◌, List, [], ◌∷◌, map, slice_get, Option, Some, None, Result, MatchResult}
+use Rattle.std.specs.Prelude.{◌≡◌, ◌⊎◌, ℕ, ◌≤◌, ℤ, int_le, Bool, true, false, ◌&&◌, ◌||◌, List, [], ◌∷◌, map, slice_get, Option, Some, None, Result, MatchResult}
 use Rattle.std.specs.List.{list_any}
 use Rattle.std.specs.Option.{ForSome, option_map_or}
 use Rattle.um_num.specs.declared.decimal.Decimal.{Decimal}
 use Rattle.um_num.specs.Listed.{Listed}
 use Rattle.um_model.specs.declared.deck.Member.{Member}
+use Rattle.um_model.specs.declared.limits.TheConstants.{MOST_SCALE, MOST_WEIGHT}
 use Rattle.um_statements.specs.declared.fault.Fault.{Fault}
 use Rattle.um_statements.specs.declared.fault.Fault.TheVariants.{Memory, TooLarge}
 use Rattle.um_statements.specs.Said.{Said, SetSaid}
@@ -29,11 +30,11 @@ has_twice_behind last (m ∷ ms) = is_weight last m.weight || has_twice_behind (
 
 -- the reference row of a set, where it has one, has no coefficient that is too fine
 abbrev pub HasFineReference : Said → SetSaid → Type 0
-HasFineReference said s = ForSome s.reference (λ place. least_scale (coefficients said place) ≤ 6)
+HasFineReference said s = ForSome s.reference (λ place. least_scale (coefficients said place) ≤ MOST_SCALE)
 
 -- a weight is too large
 abbrev pub has_large_weight : Said → SetSaid → Bool
-has_large_weight said s = list_any (λ w. is_above (2 ^ 31 * 10 ^ 6) (Some w)) (map (weight_of said s) s.members)
+has_large_weight said s = list_any (λ w. is_above MOST_WEIGHT (Some w)) (map (weight_of said s) s.members)
 
 -- the members as they were told, with their weights; or one is too large, or memory is wanting
 abbrev pub HasWeights : {A : Type 0} → (A → List Member) → Said → SetSaid → Result A Fault → Type 0

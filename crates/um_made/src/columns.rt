@@ -9,12 +9,10 @@ ghost use Rattle.um_made.specs.ColumnWords.{rules_of_column, AreMarks};
 
 use crate::sides::is_above;
 use crate::told::Told;
+use um_model::limits::MOST_ARC_END;
 use um_model::{Entry, Kind};
 use um_num::List;
 use um_statements::{End, Ends, Fault};
-
-/// The greatest size of an end of a column with an arc, in thousandths.
-const MOST_ARC_END: u64 = 8_000_000;
 
 /// A column of a deck but for its name.
 #[derive(Debug, Drop)]

@@ -11,14 +11,16 @@ ghost use Rattle.um_statements.specs.DeckRules.{row_rules, objective_rules};
 ghost use Rattle.um_made.specs.declared.rows.SidedRow.{SidedRow as SidedRowOf};
 ghost use Rattle.um_made.specs.ColumnWords.{AreSlots, AreColumnsLeft, IsColumnLeft, Fits, entry_of};
 ghost use Rattle.um_made.specs.Views.{column_said};
+ghost use Rattle.um_model.specs.declared.limits.TheConstants.{MOST_SCALE};
 
 use crate::ColumnPart;
 use crate::columns::{ColumnLeft, high_end, kind_of, low_end};
 use crate::push::push;
-use crate::rows::{MOST_ARC, MOST_COEFFICIENT, Objective, SidedRow};
+use crate::rows::{Objective, SidedRow};
 use crate::scaled::scaled_within;
 use crate::told::Told;
 use std::alloc::Global;
+use um_model::limits::{MOST_ARC, MOST_COEFFICIENT};
 use um_model::{Arc, Entry};
 use um_num::{Decimal, List, Memory, Name};
 use um_statements::EntryPart;
@@ -119,8 +121,8 @@ fn entries(
 ) -> Result<List<Entry>, Memory>
     requires count { length rows.now ≤ 1024 }
     requires within { All (λ (r : SidedRowOf). r.place < length slots.now) rows.now }
-    requires scales { All (λ (r : SidedRowOf). r.scale ≤ 6) rows.now }
-    requires fit { All (λ (r : SidedRowOf). ForSome (slice_index_or slots.now r.place None) (Fits (2 ^ 31) r.scale)) rows.now }
+    requires scales { All (λ (r : SidedRowOf). r.scale ≤ MOST_SCALE) rows.now }
+    requires fit { All (λ (r : SidedRowOf). ForSome (slice_index_or slots.now r.place None) (Fits MOST_COEFFICIENT r.scale)) rows.now }
     ensures { IfOk result (λ list. list.items ≡ filter_map (entry_of slots.now) (enumerate_from 0 rows.now)) }
 {
     let mut list = List::new(alloc);
@@ -141,10 +143,10 @@ fn entries(
 
 /// What stands in the objective, scaled; 0 where nothing does.
 fn cost_of(slot: Option<Decimal>, scale: u8) -> i64
-    requires scale { scale ≤ 6 }
-    requires fits { ForSome slot (Fits (2 ^ 31) scale) }
+    requires scale { scale ≤ MOST_SCALE }
+    requires fits { ForSome slot (Fits MOST_COEFFICIENT scale) }
     ensures value { result ≡ times_ten (unwrap_or slot nothing) scale }
-    ensures size { unsigned_abs result ≤ 2 ^ 31 }
+    ensures size { unsigned_abs result ≤ MOST_COEFFICIENT }
 {
     match slot {
         Some(cost) => scaled(MOST_COEFFICIENT, scale, &cost),
@@ -160,7 +162,7 @@ fn is_zero(value: &Decimal) -> bool
 
 /// The number at the scale.
 fn scaled(most: u64, scale: u8, value: &Decimal) -> i64
-    requires scale { scale ≤ 6 }
+    requires scale { scale ≤ MOST_SCALE }
     requires most { most < 2 ^ 63 }
     requires fits { Fits most scale value.now }
     ensures value { result ≡ times_ten value.now scale }

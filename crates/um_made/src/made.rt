@@ -1,9 +1,10 @@
 //! The parts of the deck that was said.
 
-ghost use Rattle.std.specs.Prelude.{◌≡◌, ◌≤◌, ◌^◌, IfOk, map, unsigned_abs, neg_ℤ};
+ghost use Rattle.std.specs.Prelude.{◌≡◌, ◌≤◌, IfOk, map, unsigned_abs, neg_ℤ};
 ghost use Rattle.um_statements.specs.Made.{sided_rows, for_minimising};
 ghost use Rattle.um_statements.specs.DeckRules.{deck_rules};
 ghost use Rattle.um_made.specs.Makes.{Makes};
+ghost use Rattle.um_model.specs.declared.limits.TheConstants.{MOST_SIDE};
 
 use crate::entries::for_minimising;
 use crate::named::{named_columns, named_rows, named_sets};
@@ -96,7 +97,7 @@ impl Told {
 
 /// The constant is the negative of the objective's right-hand side, and is kept as for minimising.
 fn constant_of(maximise: bool, side: i64) -> i64
-    requires { unsigned_abs side ≤ 2 ^ 53 }
+    requires { unsigned_abs side ≤ MOST_SIDE }
     ensures { result ≡ for_minimising maximise (neg_ℤ side) }
 {
     for_minimising(maximise, -side)

@@ -11,7 +11,7 @@ ghost use Rattle.um_made.specs.Makes.{Keeps, Makes};
 ghost use Rattle.um_made.specs.RowWords.{rules_of_row, IsScaled};
 ghost use Rattle.um_statements.specs.Scaled.{least_scale, is_within_at};
 ghost use Rattle.std.specs.List.{list_all};
-ghost use Rattle.std.specs.Prelude.{◌≤◌, ◌^◌, ◌||◌, not};
+ghost use Rattle.std.specs.Prelude.{◌≤◌, ◌||◌, not};
 
 use crate::RowPart;
 use crate::numbers::RowNumbers;
@@ -19,15 +19,9 @@ use crate::scaled::{is_within_at, least_scale};
 use crate::sides::{Sides, is_n, scale_beside, sides_of};
 use crate::told::Told;
 use std::alloc::Global;
+use um_model::limits::{MOST_ARC, MOST_COEFFICIENT, MOST_SCALE};
 use um_num::{Decimal, List, Name};
 use um_statements::Fault;
-
-/// The greatest scale.
-pub const MOST_SCALE: u32 = 6;
-/// The greatest size of a scaled coefficient.
-pub const MOST_COEFFICIENT: u64 = 1 << 31;
-/// The greatest size of a scaled arc.
-pub const MOST_ARC: u64 = 1 << 24;
 
 /// A row's scale and sides.
 #[derive(Clone, Copy, PartialEq, Eq, Debug)]
@@ -139,10 +133,10 @@ fn scaled_row(numbers: &RowNumbers, row: &(Name, RowPart)) -> Result<Scaled, Fau
 fn are_large(scale: u32, coefficients: &[Decimal], arcs: &[Decimal]) -> bool
     requires coefficients { All IsSmall coefficients.now }
     requires arcs { All IsSmall arcs.now }
-    requires scale { scale ≤ 6 }
+    requires scale { scale ≤ MOST_SCALE }
     requires coefficients_whole { least_scale coefficients.now ≤ scale }
     requires arcs_whole { least_scale arcs.now ≤ scale }
-    ensures { result ≡ (not (list_all (is_within_at (2 ^ 31) scale) coefficients.now) || not (list_all (is_within_at (2 ^ 24) scale) arcs.now)) }
+    ensures { result ≡ (not (list_all (is_within_at MOST_COEFFICIENT scale) coefficients.now) || not (list_all (is_within_at MOST_ARC scale) arcs.now)) }
 {
     !are_within_at(MOST_COEFFICIENT, scale, coefficients) || !are_within_at(MOST_ARC, scale, arcs)
 }
@@ -150,7 +144,7 @@ fn are_large(scale: u32, coefficients: &[Decimal], arcs: &[Decimal]) -> bool
 /// Whether all these numbers are no more than this at the scale.
 fn are_within_at(most: u64, scale: u32, numbers: &[Decimal]) -> bool
     requires small { All IsSmall numbers.now }
-    requires scale { scale ≤ 6 }
+    requires scale { scale ≤ MOST_SCALE }
     requires whole { least_scale numbers.now ≤ scale }
     ensures { result ≡ list_all (is_within_at most scale) numbers.now }
 {

@@ -1,6 +1,6 @@
 //! The members of sets, by rising weight.
 
-ghost use Rattle.std.specs.Prelude.{◌≡◌, ◌⊎◌, ◌<◌, ◌≤◌, ◌^◌, ◌*◌, length, map, flat_map, All, IfOk, MatchResult, None, Some, true, false, unsigned_abs, nat_le, nat_lt, if◌then◌else◌};
+ghost use Rattle.std.specs.Prelude.{◌≡◌, ◌⊎◌, ◌<◌, ◌≤◌, length, map, flat_map, All, IfOk, MatchResult, None, Some, true, false, unsigned_abs, nat_le, nat_lt, if◌then◌else◌};
 ghost use Rattle.std.specs.List.{list_any};
 ghost use Rattle.std.specs.Option.{ForSome, option_map_or};
 ghost use Rattle.um_statements.specs.declared.fault.Fault.TheVariants.{Memory as MemoryFault, TooLarge as TooLargeFault};
@@ -17,16 +17,14 @@ ghost use Rattle.um_made.specs.ColumnWords.{entry_at};
 use crate::SetPart;
 use crate::numbers::RowNumbers;
 use crate::push::push;
-use crate::rows::MOST_SCALE;
 use crate::scaled::{least_scale, scaled_within};
 use crate::told::Told;
 use std::alloc::Global;
 use um_model::Member;
+use um_model::limits::{MOST_SCALE, MOST_WEIGHT};
 use um_num::{Decimal, List, Memory, Name};
 use um_statements::{EntryPart, Fault, MemberPart};
 
-/// The greatest size of a weight, in millionths.
-const MOST_WEIGHT: u64 = (1 << 31) * 1_000_000;
 /// The scale of weights.
 const WEIGHT_SCALE: u32 = 6;
 
@@ -106,7 +104,7 @@ impl Told {
         requires well { IsSaid (said self.now) }
         requires fine { HasFineReference (said self.now) (set_said set.now) }
         requires member { IsMemberSaid (length self.now.columns.items) member.now }
-        ensures { result ≡ (if nat_le (unsigned_abs (weight_of (said self.now) (set_said set.now) member.now)) (2 ^ 31 * 10 ^ 6) then Some (weight_of (said self.now) (set_said set.now) member.now) else None) }
+        ensures { result ≡ (if nat_le (unsigned_abs (weight_of (said self.now) (set_said set.now) member.now)) MOST_WEIGHT then Some (weight_of (said self.now) (set_said set.now) member.now) else None) }
     {
         let Some(place) = set.1.reference else {
             return Some(member.weight.unwrap_or(0));
@@ -130,7 +128,7 @@ fn of_weight(column: u32, weight: i64) -> Member
 /// Whether a reference row has a coefficient that is too fine.
 fn is_too_fine(numbers: &[RowNumbers], reference: Option<u32>) -> bool
     requires { ForSome reference (λ place. place < length numbers.now) }
-    ensures { result ≡ option_map_or (λ place. nat_lt 6 (least_scale (numbers_at numbers.now place))) reference false }
+    ensures { result ≡ option_map_or (λ place. nat_lt MOST_SCALE (least_scale (numbers_at numbers.now place))) reference false }
 {
     match reference {
         Some(place) => least_scale(numbers[place as usize].coefficients.as_slice()) > MOST_SCALE,

@@ -1,6 +1,6 @@
 //! The scale and the sides of a row.
 
-ghost use Rattle.std.specs.Prelude.{◌≡◌, ◌≤◌, ◌^◌, MatchOption, IfSome, unsigned_abs, true, false, is_some, option_map, Some, ◌||◌};
+ghost use Rattle.std.specs.Prelude.{◌≡◌, ◌≤◌, MatchOption, IfSome, unsigned_abs, true, false, is_some, option_map, Some, ◌||◌};
 ghost use Rattle.um_model.specs.WellFormed.{IsWithin};
 ghost use Rattle.um_statements.specs.Made.{low_side, high_side, side_at, numbers_beside, nothing};
 ghost use Rattle.um_statements.specs.Scaled.{least_scale};
@@ -9,16 +9,14 @@ ghost use Rattle.um_statements.specs.CallRules.{is_n};
 ghost use Rattle.um_statements.specs.WellSaid.{IsRowSaid};
 ghost use Rattle.um_made.specs.Views.{row_said};
 ghost use Rattle.um_made.specs.RowWords.{AreSides, IsSide, has_large_side, range_taken};
+ghost use Rattle.um_model.specs.declared.limits.TheConstants.{MOST_SCALE};
 
 use crate::RowPart;
 use crate::scaled::{decimals, scaled_within};
+use um_model::limits::{MOST_RANGE, MOST_SIDE};
 use um_num::{Decimal, Name};
 use um_statements::RowKind;
 
-/// The greatest size of a scaled side.
-const MOST_SIDE: u64 = 1 << 53;
-/// A range above this, scaled, leads to a side above the greatest.
-const MOST_RANGE: u64 = 1 << 54;
 /// Of what is not told.
 const NOTHING: Decimal = Decimal {
     digits: 0,
@@ -47,7 +45,7 @@ pub fn scale_beside(row: &(Name, RowPart)) -> u32
 /// The sides of a row; `None` where one is too large.
 pub fn sides_of(row: &(Name, RowPart), scale: u32) -> Option<Sides>
     requires numbers { IsRowSaid (row_said row.now) }
-    requires scale { scale ≤ 6 }
+    requires scale { scale ≤ MOST_SCALE }
     requires whole { least_scale (numbers_beside (row_said row.now)) ≤ scale }
     ensures { MatchOption result (has_large_side (row_said row.now) scale ≡ true) (λ s. (has_large_side (row_said row.now) scale ≡ false) × AreSides (row_said row.now) scale s) }
 {
@@ -73,9 +71,9 @@ pub fn sides_of(row: &(Name, RowPart), scale: u32) -> Option<Sides>
 /// The right-hand side, scaled; `None` where it is too large.
 fn side_of(row: &(Name, RowPart), scale: u32) -> Option<i64>
     requires numbers { IsRowSaid (row_said row.now) }
-    requires scale { scale ≤ 6 }
+    requires scale { scale ≤ MOST_SCALE }
     requires whole { least_scale (numbers_beside (row_said row.now)) ≤ scale }
-    ensures { MatchOption result (is_above (2 ^ 53) (Some (side_at (row_said row.now) scale)) ≡ true) (IsSide (row_said row.now) scale) }
+    ensures { MatchOption result (is_above MOST_SIDE (Some (side_at (row_said row.now) scale)) ≡ true) (IsSide (row_said row.now) scale) }
 {
     let side = row.1.side.unwrap_or(NOTHING);
     scaled_within(MOST_SIDE, scale, &side)
@@ -83,7 +81,7 @@ fn side_of(row: &(Name, RowPart), scale: u32) -> Option<i64>
 
 /// Whether one of these sides is too large.
 fn are_above(low: Option<i64>, high: Option<i64>) -> bool
-    ensures { result ≡ (is_above (2 ^ 53) low || is_above (2 ^ 53) high) }
+    ensures { result ≡ (is_above MOST_SIDE low || is_above MOST_SIDE high) }
 {
     is_above(MOST_SIDE, low) || is_above(MOST_SIDE, high)
 }
@@ -91,9 +89,9 @@ fn are_above(low: Option<i64>, high: Option<i64>) -> bool
 /// The range of a row that is not N, scaled; `None` where it is so large that a side is too large.
 fn range_of(row: &(Name, RowPart), scale: u32) -> Option<Option<i64>>
     requires numbers { IsRowSaid (row_said row.now) }
-    requires scale { scale ≤ 6 }
+    requires scale { scale ≤ MOST_SCALE }
     requires whole { least_scale (numbers_beside (row_said row.now)) ≤ scale }
-    ensures { MatchOption result (is_above (2 ^ 54) (range_taken (row_said row.now) scale) ≡ true) (λ r. (r ≡ range_taken (row_said row.now) scale) × IfSome r (IsWithin (2 ^ 54))) }
+    ensures { MatchOption result (is_above MOST_RANGE (range_taken (row_said row.now) scale) ≡ true) (λ r. (r ≡ range_taken (row_said row.now) scale) × IfSome r (IsWithin MOST_RANGE)) }
 {
     if is_n(row.1.kind) {
         return Some(None);
@@ -114,8 +112,8 @@ pub fn is_n(kind: RowKind) -> bool
 
 /// The low side of a right-hand side and a range.
 fn low_side(kind: RowKind, side: i64, range: Option<i64>) -> Option<i64>
-    requires side { IsWithin (2 ^ 53) side }
-    requires range { IfSome range (IsWithin (2 ^ 54)) }
+    requires side { IsWithin MOST_SIDE side }
+    requires range { IfSome range (IsWithin MOST_RANGE) }
     ensures { result ≡ low_side kind side range }
 {
     match (kind, range) {
@@ -128,8 +126,8 @@ fn low_side(kind: RowKind, side: i64, range: Option<i64>) -> Option<i64>
 
 /// The high side of a right-hand side and a range.
 fn high_side(kind: RowKind, side: i64, range: Option<i64>) -> Option<i64>
-    requires side { IsWithin (2 ^ 53) side }
-    requires range { IfSome range (IsWithin (2 ^ 54)) }
+    requires side { IsWithin MOST_SIDE side }
+    requires range { IfSome range (IsWithin MOST_RANGE) }
     ensures { result ≡ high_side kind side range }
 {
     match (kind, range) {

@@ -2,11 +2,12 @@
 use Rattle.std.specs.Prelude.{◌≡◌, ℕ, ◌<◌, ℤ, pos, ◌+ℤ◌, ◌*ℤ◌, List, length, if◌then◌else◌, Option}
 use Rattle.um_model.specs.Feasible.{part, is_arc_of}
 use Rattle.um_model.specs.declared.deck.Arc.{Arc}
+use Rattle.um_model.specs.declared.limits.TheConstants.{MOST_ROWS}
 
 -- a sum for each row that a deck may have: the value of the row
 pub record AreSums (value : ℕ → ℤ) (sums : List ℤ) : Type 0 where
-  pub long : length sums ≡ 512
-  pub each : (row : ℕ) → row < 512 → part sums row ≡ value row
+  pub long : length sums ≡ MOST_ROWS
+  pub each : (row : ℕ) → row < MOST_ROWS → part sums row ≡ value row
 
 -- each row's sum has grown by the term of the row
 pub record HaveGrown (term : ℕ → ℤ) (before after : List ℤ) : Type 0 where

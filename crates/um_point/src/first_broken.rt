@@ -4,6 +4,7 @@ ghost use Rattle.std.specs.Prelude.{◌≡◌, ◌≤◌, length, IsNone, IfSome
 ghost use Rattle.um_model.specs.Values.{plain_point};
 ghost use Rattle.um_model.specs.Feasible.{AllPlaces, RowHolds, EndsHold, IntegerHolds, SemiHolds, SetHolds, Feasible};
 ghost use Rattle.um_model.specs.FirstBroken.{IsFirstFailure, IsFirstBroken};
+ghost use Rattle.um_model.specs.declared.limits.TheConstants.{MOST_ROWS};
 ghost use Rattle.um_point.specs.SmallPoints.{IsSmallPoint};
 
 use crate::columns::{ends_hold, integer_holds, semi_holds};
@@ -15,7 +16,7 @@ use um_model::{Broken, Point};
 
 fn row_count(deck: &Deck) -> u32
     ensures count { result ≡ length deck.now.rows }
-    ensures few { result ≤ 512 }
+    ensures few { result ≤ MOST_ROWS }
 {
     deck.known();
     deck.rows().len() as u32

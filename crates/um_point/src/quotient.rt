@@ -4,6 +4,7 @@ ghost use Rattle.std.specs.Prelude.{◌≡◌, ◌^◌, ◌*ℤ◌, ◌≤ℤ◌
 ghost use Rattle.std.specs.Option.{ForSome};
 ghost use Rattle.um_model.specs.WellFormed.{IsWithin};
 ghost use Rattle.um_model.specs.Feasible.{Between, IsMultipleOf};
+ghost use Rattle.um_model.specs.declared.limits.TheConstants.{MOST_SIDE};
 
 /// A number as a numerator over a denominator.
 #[derive(Clone, Copy)]
@@ -15,7 +16,7 @@ pub struct Quotient {
 impl Quotient {
     /// A number times the denominator.
     pub fn scaled(&self, number: i64) -> i128
-        requires number { IsWithin (2 ^ 53) number }
+        requires number { IsWithin MOST_SIDE number }
         requires den { IsWithin (2 ^ 72) self.now.den }
         ensures { result ≡ number *ℤ self.now.den }
     {
@@ -23,7 +24,7 @@ impl Quotient {
     }
 
     fn is_from(&self, low: Option<i64>) -> bool
-        requires low { ForSome low (IsWithin (2 ^ 53)) }
+        requires low { ForSome low (IsWithin MOST_SIDE) }
         requires den { IsWithin (2 ^ 72) self.now.den }
         ensures { IsTrue result ↔ ForSome low (λ l. (l *ℤ self.now.den) ≤ℤ self.now.num) }
     {
@@ -34,7 +35,7 @@ impl Quotient {
     }
 
     fn is_up_to(&self, high: Option<i64>) -> bool
-        requires high { ForSome high (IsWithin (2 ^ 53)) }
+        requires high { ForSome high (IsWithin MOST_SIDE) }
         requires den { IsWithin (2 ^ 72) self.now.den }
         ensures { IsTrue result ↔ ForSome high (λ h. self.now.num ≤ℤ (h *ℤ self.now.den)) }
     {
@@ -46,8 +47,8 @@ impl Quotient {
 
     /// Whether the number lies between the ends that are there.
     pub fn is_between(&self, low: Option<i64>, high: Option<i64>) -> bool
-        requires low { ForSome low (IsWithin (2 ^ 53)) }
-        requires high { ForSome high (IsWithin (2 ^ 53)) }
+        requires low { ForSome low (IsWithin MOST_SIDE) }
+        requires high { ForSome high (IsWithin MOST_SIDE) }
         requires den { IsWithin (2 ^ 72) self.now.den }
         ensures { IsTrue result ↔ Between low high self.now.den self.now.num }
     {
@@ -56,7 +57,7 @@ impl Quotient {
 
     /// Whether the number is 0 or at least the threshold.
     pub fn is_zero_or_from(&self, threshold: i64) -> bool
-        requires threshold { IsWithin (2 ^ 53) threshold }
+        requires threshold { IsWithin MOST_SIDE threshold }
         requires den { IsWithin (2 ^ 72) self.now.den }
         ensures { IsTrue result ↔ ((self.now.num ≡ pos 0) ⊎ ((threshold *ℤ self.now.den) ≤ℤ self.now.num)) }
     {

@@ -7,19 +7,21 @@ ghost use Rattle.um_model.specs.Values.{plain_column, plain_point};
 ghost use Rattle.um_model.specs.WellFormed.{IsWithin};
 ghost use Rattle.um_model.specs.Feasible.{coefficient, part, row_times};
 ghost use Rattle.um_model.specs.declared.deck.Arc.{Arc};
+ghost use Rattle.um_model.specs.declared.limits.TheConstants.{MOST_COLUMNS, MOST_COEFFICIENT, MOST_ARC};
 ghost use Rattle.um_point.specs.RowSums.{AreSums, HaveGrown, arc_term};
 ghost use Rattle.um_point.specs.SmallPoints.{IsSmall, IsSmallColumn, IsSmallPoint};
 
 use crate::sums::arc_square;
 use um_deck::Deck;
+use um_model::limits::MOST_ROWS;
 use um_model::{Arc, Column, Entry, Point};
 
 /// A sum for each row that a deck may have, on the stack.
-pub type RowSums = [i128; 512];
+pub type RowSums = [i128; MOST_ROWS];
 
 /// What an entry adds to the sum of its row.
 fn entry_term(entry: &Entry, factor: &i128) -> i128
-    requires value { IsWithin (2 ^ 31) entry.now.value }
+    requires value { IsWithin MOST_COEFFICIENT entry.now.value }
     requires factor { IsWithin (2 ^ 72) factor.now }
     ensures value { result ≡ entry.now.value *ℤ factor.now }
     ensures size { IsWithin (2 ^ 103) result }
@@ -29,7 +31,7 @@ fn entry_term(entry: &Entry, factor: &i128) -> i128
 
 /// Adds to each row's sum the column's coefficient in the row times the factor.
 fn add_column(sums: &mut [i128], column: &Column, factor: &i128)
-    requires sums { length sums.old ≡ 512 }
+    requires sums { length sums.old ≡ MOST_ROWS }
     requires sizes { All (IsWithin (2 ^ 124)) sums.old }
     requires column { IsSmallColumn (plain_column column.now) }
     requires factor { IsWithin (2 ^ 72) factor.now }
@@ -54,14 +56,14 @@ fn scaled_part(point: &Point, index: usize) -> i128
 /// What the entries give to each row: its coefficients times the parts, and times the denominator.
 fn entry_sums(columns: &[Column], point: &Point) -> RowSums
     requires columns { All IsSmallColumn (map plain_column columns.now) }
-    requires few { length columns.now ≤ 4096 }
+    requires few { length columns.now ≤ MOST_COLUMNS }
     requires den { IsSmall point.now.den }
     requires parts { All IsSmall (plain_point point.now).parts }
     requires beside { length (plain_point point.now).parts ≡ length columns.now }
     ensures sums { AreSums (λ row. point.now.den *ℤ dot (coefficient row) (map plain_column columns.now) (plain_point point.now).parts) result }
     ensures sizes { All (IsWithin (2 ^ 124)) result }
 {
-    let mut sums = [0; 512];
+    let mut sums = [0; MOST_ROWS];
     for (index, column) in columns.iter().enumerate() {
         add_column(&mut sums, column, &scaled_part(point, index));
     }
@@ -72,7 +74,7 @@ fn entry_sums(columns: &[Column], point: &Point) -> RowSums
 fn add_arcs(sums: &mut [i128], arcs: &[Arc], parts: &[i128])
     requires sizes { All (IsWithin (2 ^ 124)) sums.old }
     requires few { length arcs.now ≤ 2 ^ 22 }
-    requires values { All (λ (a : Arc). IsWithin (2 ^ 24) a.value) arcs.now }
+    requires values { All (λ (a : Arc). IsWithin MOST_ARC a.value) arcs.now }
     requires rows { All (λ (a : Arc). ForSome a.row (λ row. row < length sums.old)) arcs.now }
     requires inside { All (λ (a : Arc). a.column < length parts.now) arcs.now }
     requires parts { All IsSmall parts.now }

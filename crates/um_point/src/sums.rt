@@ -6,6 +6,7 @@ ghost use Rattle.um_model.specs.Values.{ColumnValue, plain_column};
 ghost use Rattle.um_model.specs.WellFormed.{IsWithin};
 ghost use Rattle.um_model.specs.Feasible.{part};
 ghost use Rattle.um_model.specs.declared.deck.Arc.{Arc};
+ghost use Rattle.um_model.specs.declared.limits.TheConstants.{MOST_COLUMNS, MOST_SIDE, MOST_ARC};
 ghost use Rattle.um_point.specs.RowSums.{arc_term};
 ghost use Rattle.um_point.specs.SmallPoints.{IsSmall, IsSmallColumn};
 
@@ -24,7 +25,7 @@ fn cost_term(column: &Column, part: &i128) -> i128
 /// The sum of the costs times these parts.
 pub fn cost_sum(columns: &[Column], parts: &[i128]) -> i128
     requires columns { All IsSmallColumn (map plain_column columns.now) }
-    requires few { length columns.now ≤ 4096 }
+    requires few { length columns.now ≤ MOST_COLUMNS }
     requires parts { All IsSmall parts.now }
     requires beside { length parts.now ≡ length columns.now }
     ensures value { result ≡ dot (λ (c : ColumnValue). c.cost) (map plain_column columns.now) parts.now }
@@ -39,7 +40,7 @@ pub fn cost_sum(columns: &[Column], parts: &[i128]) -> i128
 
 /// A number times the square of a part.
 pub fn times_square(number: i64, part: &i128) -> i128
-    requires number { IsWithin (2 ^ 53) number }
+    requires number { IsWithin MOST_SIDE number }
     requires part { IsSmall part.now }
     ensures value { result ≡ number *ℤ (part.now *ℤ part.now) }
     ensures size { unsigned_abs result ≤ unsigned_abs number * 2 ^ 72 }
@@ -49,7 +50,7 @@ pub fn times_square(number: i64, part: &i128) -> i128
 
 /// An arc's value times the square of its column's part.
 pub fn arc_square(arc: &Arc, parts: &[i128]) -> i128
-    requires value { IsWithin (2 ^ 24) arc.now.value }
+    requires value { IsWithin MOST_ARC arc.now.value }
     requires inside { arc.now.column < length parts.now }
     requires parts { All IsSmall parts.now }
     ensures value { result ≡ arc.now.value *ℤ (part parts.now arc.now.column *ℤ part parts.now arc.now.column) }
@@ -60,7 +61,7 @@ pub fn arc_square(arc: &Arc, parts: &[i128]) -> i128
 
 /// What an arc adds to the objective.
 fn objective_term(arc: &Arc, parts: &[i128]) -> i128
-    requires value { IsWithin (2 ^ 24) arc.now.value }
+    requires value { IsWithin MOST_ARC arc.now.value }
     requires inside { arc.now.column < length parts.now }
     requires parts { All IsSmall parts.now }
     ensures value { result ≡ arc_term None parts.now arc.now }
@@ -75,7 +76,7 @@ fn objective_term(arc: &Arc, parts: &[i128]) -> i128
 /// The sum of the objective's arcs at these parts.
 pub fn square_sum(arcs: &[Arc], parts: &[i128]) -> i128
     requires few { length arcs.now ≤ 2 ^ 22 }
-    requires values { All (λ (a : Arc). IsWithin (2 ^ 24) a.value) arcs.now }
+    requires values { All (λ (a : Arc). IsWithin MOST_ARC a.value) arcs.now }
     requires inside { All (λ (a : Arc). a.column < length parts.now) arcs.now }
     requires parts { All IsSmall parts.now }
     ensures value { result ≡ sum_of (arc_term None parts.now) arcs.now }

@@ -2,6 +2,7 @@
 
 ghost use Rattle.std.specs.Prelude.{◌≡◌, ◌≤◌, ◌∷◌, ◌++◌, [], length, map, is_some, sum_by, count_by, decimal, OnOk};
 ghost use Rattle.um_model.specs.AnswerValues.{plain_node};
+ghost use Rattle.um_model.specs.declared.limits.TheConstants.{MOST_NODES};
 ghost use Rattle.um_model.specs.declared.tree.Node.{Node};
 ghost use Rattle.um_text.specs.Texts.{line_text, lines_text};
 ghost use Rattle.um_report.specs.Reports.{is_solved, pivots_in, pivots_of, work_lines};
@@ -50,7 +51,7 @@ fn solved_nodes(nodes: &[Node]) -> usize
 
 /// The sum of the nodes' pivots.
 fn pivots(nodes: &[Node]) -> u128
-    requires { length nodes.now ≤ Tree.MOST }
+    requires { length nodes.now ≤ MOST_NODES }
     ensures { result ≡ sum_by (λ (n : Node). pivots_in n.solved) nodes.now }
 {
     let mut sum = 0;

@@ -1,5 +1,5 @@
 -- What a maker may be told: the rules of each call in their order, and what the call does.
-use Rattle.std.specs.Prelude.{ℕ, ◌*◌, ◌^◌, Bool, true, false, ◌&&◌, ◌||◌, not, is_some, nat_le, nat_eq, unsigned_abs, if◌then◌else◌, List, [], ◌∷◌, ◌++◌, map, length, position, slice_get, count_by, Option, Some, None, option_map}
+use Rattle.std.specs.Prelude.{ℕ, Bool, true, false, ◌&&◌, ◌||◌, not, is_some, nat_le, nat_eq, unsigned_abs, if◌then◌else◌, List, [], ◌∷◌, ◌++◌, map, length, position, slice_get, count_by, Option, Some, None, option_map}
 use Rattle.std.specs.List.{list_any, range_with_len}
 use Rattle.std.specs.Option.{option_and_then, option_map_or, option_or}
 use Rattle.std.specs.Str.{bytes_eq}
@@ -16,6 +16,7 @@ use Rattle.um_statements.specs.declared.parts.ArcPart.{ArcPart}
 use Rattle.um_statements.specs.Statements.{Name, Statement, Title, Sense, Row, Column, Entry, Side, Range, Bound, Set, Member, Arc}
 use Rattle.um_statements.specs.Scaled.{times_ten, is_whole_at, is_within_at}
 use Rattle.um_statements.specs.Said.{Said, RowSaid, ColumnSaid, SetSaid, row_place, column_place, is_endless, low_set, high_set, threshold_set, makes_fall, makes_integer, makes_semi}
+use Rattle.um_model.specs.declared.limits.TheConstants.{MOST_ROW_LINES, MOST_ROWS, MOST_COLUMNS, MOST_SETS, MOST_ARC_COLUMNS, MOST_END, MOST_WEIGHT}
 
 -- ---- rules
 
@@ -79,14 +80,14 @@ has_member said column = last_has (λ (s : SetSaid). list_any (λ (m : MemberPar
 
 -- 1,024 rows, or 512 that are not N
 abbrev pub is_full_of_rows : Said → RowKind → Bool
-is_full_of_rows said kind = nat_le 1024 (length said.rows) || (not (is_n kind) && nat_le 512 (count_by (λ (r : RowSaid). not (is_n r.kind)) said.rows))
+is_full_of_rows said kind = nat_le MOST_ROW_LINES (length said.rows) || (not (is_n kind) && nat_le MOST_ROWS (count_by (λ (r : RowSaid). not (is_n r.kind)) said.rows))
 
 abbrev pub is_full_of_columns : Said → Bool
-is_full_of_columns said = nat_le 4096 (length said.columns)
+is_full_of_columns said = nat_le MOST_COLUMNS (length said.columns)
 
 -- the value of a bound is not infinite, and above 10 ^ 7 in size
 abbrev pub is_large_bound : BoundKind → Decimal → Bool
-is_large_bound kind v = not (is_endless kind v) && not (is_within_at (10 ^ 10) 3 v)
+is_large_bound kind v = not (is_endless kind v) && not (is_within_at MOST_END 3 v)
 
 -- an SC on an integer column, or an LI, UI or BV on a semicontinuous one
 abbrev pub mixes : BoundKind → ColumnSaid → Bool
@@ -140,18 +141,18 @@ rules_of said (Bound kind column value) =
 rules_of said (Set kind name reference) =
     (option_map_or (λ row. not (has_row said row)) reference false, UnknownRow)
     ∷ (has_set said name, TwiceSet)
-    ∷ (nat_le 256 (length said.sets), TooMany) ∷ []
+    ∷ (nat_le MOST_SETS (length said.sets), TooMany) ∷ []
 rules_of said (Member column weight) =
     (not (has_column said column), UnknownColumn)
     ∷ (has_member said column, TwiceMember)
     ∷ (option_map_or (λ v. not (is_whole_at 6 v)) weight false, TooFine)
-    ∷ (option_map_or (λ v. not (is_within_at (2 ^ 31 * 10 ^ 6) 6 v)) weight false, TooLarge) ∷ []
+    ∷ (option_map_or (λ v. not (is_within_at MOST_WEIGHT 6 v)) weight false, TooLarge) ∷ []
 rules_of said (Arc row column value) =
     (not (has_row said row), UnknownRow)
     ∷ (not (has_column said column), UnknownColumn)
     ∷ (not (is_objective said row), ArcRow)
     ∷ (has_arc_at said row column, TwiceEntry)
-    ∷ (not (is_zero value) && option_map_or (λ j. not (has_kept_arc said j)) (column_place said.columns column) false && nat_le 64 (arc_columns said), TooMany) ∷ []
+    ∷ (not (is_zero value) && option_map_or (λ j. not (has_kept_arc said j)) (column_place said.columns column) false && nat_le MOST_ARC_COLUMNS (arc_columns said), TooMany) ∷ []
 
 abbrev pub fault_of : Said → Statement → Option Fault
 fault_of said s = first_fault (rules_of said s)

@@ -1,8 +1,9 @@
 -- Which of what was said is a deck: the rules that are looked at when all is said, in their order.
-use Rattle.std.specs.Prelude.{◌≡◌, ◌⊎◌, ℕ, ◌*◌, ◌^◌, ℤ, pos, unsigned_abs, int_le, int_lt, Bool, true, false, ◌&&◌, ◌||◌, not, nat_eq, nat_le, nat_lt, is_none, List, [], ◌∷◌, ◌++◌, map, flat_map, length, Option, Some, None, Result, MatchResult}
+use Rattle.std.specs.Prelude.{◌≡◌, ◌⊎◌, ℕ, ℤ, pos, unsigned_abs, int_le, int_lt, Bool, true, false, ◌&&◌, ◌||◌, not, nat_eq, nat_le, nat_lt, is_none, List, [], ◌∷◌, ◌++◌, map, flat_map, length, Option, Some, None, Result, MatchResult}
 use Rattle.std.specs.List.{list_any, list_all, enumerate_from}
 use Rattle.std.specs.Option.{option_map_or}
 use Rattle.um_model.specs.Values.{DeckValue}
+use Rattle.um_model.specs.declared.limits.TheConstants.{MOST_SCALE, MOST_SIDE, MOST_COEFFICIENT, MOST_ARC, MOST_ARC_END, MOST_WEIGHT}
 use Rattle.um_statements.specs.declared.fault.Fault.{Fault}
 use Rattle.um_statements.specs.declared.fault.Fault.TheVariants.{NoObjective, TooFine, TooLarge, SemiLower, CrossedBounds, NotFinite, LowerNotZero, ArcInSet, EmptySet, TwiceWeight, Memory}
 use Rattle.um_statements.specs.declared.parts.Ends.{Ends}
@@ -35,15 +36,15 @@ is_member said column = list_any (λ (s : SetSaid). list_any (λ (m : MemberPart
 -- a coefficient above 2^31 in size, an arc above 2^24, or a side above 2^53, scaled
 abbrev pub has_large_number : Said → ℕ → RowSaid → ℕ → Bool
 has_large_number said place r scale =
-    not (list_all (is_within_at (2 ^ 31) scale) (coefficients said place))
-    || not (list_all (is_within_at (2 ^ 24) scale) (arcs_in said place))
-    || is_above (2 ^ 53) (Some (side_at r scale))
-    || is_above (2 ^ 53) (low_side r.kind (side_at r scale) (range_at r scale))
-    || is_above (2 ^ 53) (high_side r.kind (side_at r scale) (range_at r scale))
+    not (list_all (is_within_at MOST_COEFFICIENT scale) (coefficients said place))
+    || not (list_all (is_within_at MOST_ARC scale) (arcs_in said place))
+    || is_above MOST_SIDE (Some (side_at r scale))
+    || is_above MOST_SIDE (low_side r.kind (side_at r scale) (range_at r scale))
+    || is_above MOST_SIDE (high_side r.kind (side_at r scale) (range_at r scale))
 
 abbrev pub row_rules : Said → ℕ × RowSaid → List Rule
 row_rules said p =
-    (nat_lt 6 (row_scale said p.0 p.1), TooFine)
+    (nat_lt MOST_SCALE (row_scale said p.0 p.1), TooFine)
     ∷ (has_large_number said p.0 p.1 (row_scale said p.0 p.1), TooLarge) ∷ []
 
 abbrev pub objective_rules : Said → Option (ℕ × RowSaid) → List Rule
@@ -58,7 +59,7 @@ needs_ends said j ends = ends.integer || ends.semi || is_member said j || has_ke
 abbrev pub column_rules : Said → ℕ × ColumnSaid → List Rule
 column_rules said p =
     let ends = p.1.ends in
-    (has_kept_arc said p.0 && (is_above 8000000 (low_end ends) || is_above 8000000 (high_end ends)), TooLarge)
+    (has_kept_arc said p.0 && (is_above MOST_ARC_END (low_end ends) || is_above MOST_ARC_END (high_end ends)), TooLarge)
     ∷ (ends.semi && is_below_zero_or_none (threshold ends), SemiLower)
     ∷ (are_crossed (low_end ends) (high_end ends) || (ends.semi && are_crossed (threshold ends) (high_end ends)), CrossedBounds)
     ∷ (needs_ends said p.0 ends && (is_none (low_end ends) || is_none (high_end ends)), NotFinite)
@@ -74,8 +75,8 @@ has_twice (z ∷ zs) = list_any (λ y. int_le y z && int_le z y) zs || has_twice
 abbrev pub set_rules : Said → SetSaid → List Rule
 set_rules said s =
     let weights = map (weight_of said s) s.members in
-    (option_map_or (λ place. nat_lt 6 (least_scale (coefficients said place))) s.reference false, TooFine)
-    ∷ (list_any (λ w. is_above (2 ^ 31 * 10 ^ 6) (Some w)) weights, TooLarge)
+    (option_map_or (λ place. nat_lt MOST_SCALE (least_scale (coefficients said place))) s.reference false, TooFine)
+    ∷ (list_any (λ w. is_above MOST_WEIGHT (Some w)) weights, TooLarge)
     ∷ (nat_eq (length s.members) 0, EmptySet)
     ∷ (has_twice weights, TwiceWeight) ∷ []
 

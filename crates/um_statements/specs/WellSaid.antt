@@ -1,10 +1,11 @@
 -- What holds of all that was said of a deck without a fault.
-use Rattle.std.specs.Prelude.{◌≡◌, ◌≢◌, ℕ, ◌<◌, ◌≤◌, ◌*◌, ◌^◌, ℤ, Bool, false, ◌&&◌, not, nat_eq, List, length, map, All, AllPairs, count_by, Option, None, Some}
+use Rattle.std.specs.Prelude.{◌≡◌, ◌≢◌, ℕ, ◌<◌, ◌≤◌, ℤ, Bool, false, ◌&&◌, not, nat_eq, List, length, map, All, AllPairs, count_by, Option, None, Some}
 use Rattle.std.specs.Option.{ForSome, option_map_or}
 use Rattle.std.specs.List.{list_any, range_with_len}
 use Rattle.um_num.specs.declared.decimal.Decimal.{Decimal}
 use Rattle.um_text.specs.Decimals.{IsNormal}
 use Rattle.um_model.specs.WellFormed.{IsWithin}
+use Rattle.um_model.specs.declared.limits.TheConstants.{MOST_ROW_LINES, MOST_ROWS, MOST_COLUMNS, MOST_SETS, MOST_ARC_COLUMNS, MOST_END, MOST_WEIGHT}
 use Rattle.um_statements.specs.declared.parts.End.{End}
 use Rattle.um_statements.specs.declared.parts.Ends.{Ends}
 use Rattle.um_statements.specs.declared.parts.EntryPart.{EntryPart}
@@ -39,8 +40,8 @@ pub record IsRowSaid (r : RowSaid) : Type 0 where
 
 pub record AreRows (rows : List RowSaid) : Type 0 where
   pub names : AllPairs (λ (a : Name) (b : Name). a ≢ b) (map (λ (r : RowSaid). r.name) rows)
-  pub count : length rows ≤ 1024
-  pub sided : count_by (λ (r : RowSaid). not (is_n r.kind)) rows ≤ 512
+  pub count : length rows ≤ MOST_ROW_LINES
+  pub sided : count_by (λ (r : RowSaid). not (is_n r.kind)) rows ≤ MOST_ROWS
   pub each : All IsRowSaid rows
 
 -- ---- columns
@@ -52,9 +53,9 @@ set_end found = option_map_or finite found None
 -- not both semicontinuous and integer; ends of at most 10^10 thousandths
 pub record IsEnds (e : Ends) : Type 0 where
   pub unmixed : (e.semi && e.integer) ≡ false
-  pub low_size : ForSome (set_end e.low) (IsWithin (10 ^ 10))
-  pub high_size : ForSome (set_end e.high) (IsWithin (10 ^ 10))
-  pub threshold_size : ForSome (set_end e.threshold) (IsWithin (10 ^ 10))
+  pub low_size : ForSome (set_end e.low) (IsWithin MOST_END)
+  pub high_size : ForSome (set_end e.high) (IsWithin MOST_END)
+  pub threshold_size : ForSome (set_end e.threshold) (IsWithin MOST_END)
 
 -- an entry of one of this many rows
 pub record IsEntrySaid (rows : ℕ) (e : EntryPart) : Type 0 where
@@ -68,14 +69,14 @@ pub record IsColumnSaid (rows : ℕ) (c : ColumnSaid) : Type 0 where
 
 pub record AreColumns (rows : ℕ) (columns : List ColumnSaid) : Type 0 where
   pub names : AllPairs (λ (a : Name) (b : Name). a ≢ b) (map (λ (c : ColumnSaid). c.name) columns)
-  pub count : length columns ≤ 4096
+  pub count : length columns ≤ MOST_COLUMNS
   pub each : All (IsColumnSaid rows) columns
 
 -- ---- sets
 
 pub record IsMemberSaid (columns : ℕ) (m : MemberPart) : Type 0 where
   pub place : m.column < columns
-  pub size : ForSome m.weight (IsWithin (2 ^ 31 * 10 ^ 6))
+  pub size : ForSome m.weight (IsWithin MOST_WEIGHT)
 
 pub record IsSetSaid (rows columns : ℕ) (s : SetSaid) : Type 0 where
   pub weights_row : ForSome s.reference (λ row. row < rows)
@@ -84,7 +85,7 @@ pub record IsSetSaid (rows columns : ℕ) (s : SetSaid) : Type 0 where
 
 pub record AreSets (rows columns : ℕ) (sets : List SetSaid) : Type 0 where
   pub names : AllPairs (λ (a : Name) (b : Name). a ≢ b) (map (λ (s : SetSaid). s.name) sets)
-  pub count : length sets ≤ 256
+  pub count : length sets ≤ MOST_SETS
   pub each : All (IsSetSaid rows columns) sets
 
 -- ---- arcs
@@ -102,7 +103,7 @@ keeps_arc arcs j = list_any (λ (a : ArcPart). nat_eq a.column j && not (is_zero
 pub record AreArcs (objective : Option ℕ) (columns : ℕ) (arcs : List ArcPart) : Type 0 where
   pub each : All (IsArcSaid objective columns) arcs
   pub distinct : AllPairs (λ (a : ArcPart) (b : ArcPart). a.row ≡ b.row → a.column ≢ b.column) arcs
-  pub count : count_by (keeps_arc arcs) (range_with_len 0 columns) ≤ 64
+  pub count : count_by (keeps_arc arcs) (range_with_len 0 columns) ≤ MOST_ARC_COLUMNS
 
 -- ---- all
 

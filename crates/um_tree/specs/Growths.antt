@@ -5,6 +5,7 @@ use Rattle.um_model.specs.declared.branch.Branch.{Branch}
 use Rattle.um_model.specs.declared.branch.Side.TheVariants.{Left, Right}
 use Rattle.um_model.specs.declared.tree.Solved.{Solved}
 use Rattle.um_model.specs.AnswerValues.{NodeValue, WhatValue, Split, Bounded, Empty, Void, OpenLeaf}
+use Rattle.um_model.specs.declared.limits.TheConstants.{MOST_NODES}
 use Rattle.um_tree.specs.declared.growing.Origin.{Origin}
 
 -- by id: where each node came from, None for the root; and the node
@@ -105,7 +106,7 @@ pub record IsPreorder (g : GrowthValue) (ids : List ℕ) : Type 0 where
 pub record IsGrowth (g : GrowthValue) : Type 0 where
   pub size : length g.origins ≡ length g.nodes
   pub some : 1 ≤ length g.nodes
-  pub most : length g.nodes ≤ 200001
+  pub most : length g.nodes ≤ MOST_NODES
   pub older : (id : ℕ) → ForSome (origin_at g id) (λ (o : Origin). o.parent < id)
   pub split : (id : ℕ) → ForSome (origin_at g id) (λ (o : Origin). what_at g o.parent ≡ Split o.branch)
 

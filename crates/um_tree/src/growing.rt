@@ -2,6 +2,7 @@
 
 ghost use Rattle.std.specs.Prelude.{◌≡◌, ◌+◌, ◌<◌, ◌≤◌, [], ◌∷◌, length, map, slice_set, slice_index_or, None, Some, IfOk, OnOk, OnErr};
 ghost use Rattle.um_model.specs.AnswerValues.{plain_node, plain_what};
+ghost use Rattle.um_model.specs.declared.limits.TheConstants.{MOST_NODES};
 ghost use Rattle.um_tree.specs.Growths.{origin_at, what_at, node_at, no_node, IsLeaf, IsOpenAt, parted, settled, IsTold};
 
 use std::alloc::Global;
@@ -106,7 +107,7 @@ impl Growth {
         requires open { IsOpenAt self.old id }
         requires left { IsLeaf (plain_what left.what) }
         requires right { IsLeaf (plain_what right.what) }
-        requires room { length self.old.nodes + 2 ≤ 200001 }
+        requires room { length self.old.nodes + 2 ≤ MOST_NODES }
         ensures ok { OnOk result (self.new ≡ parted self.old id solved branch (plain_node left) (plain_node right)) }
         ensures err { OnErr result (self.new ≡ self.old) }
     {

@@ -11,6 +11,7 @@ use Rattle.um_model.specs.declared.answer.AnswerKind.{AnswerKind}
 use Rattle.um_model.specs.declared.answer.AnswerKind.TheVariants as kind
 use Rattle.um_model.specs.declared.answer.Why.{Why}
 use Rattle.um_model.specs.declared.answer.Why.TheVariants as why
+use Rattle.um_model.specs.declared.limits.TheConstants.{MOST_NODES}
 use Rattle.um_treetext.specs.declared.fault.TreeWord.{TreeWord}
 use Rattle.um_treetext.specs.declared.reading.causes.CauseWord.{CauseWord}
 use Rattle.um_treetext.specs.declared.reading.causes.CauseWord.TheVariants as cause
@@ -144,7 +145,7 @@ ray_line columns = labelled (codes "RAY") (ray_said columns)
 
 -- at most as many as a tree holds
 unfoldable pub nodes_said : List ℕ → Says ℕ
-nodes_said word = then_step (natural_word (2 ^ 127) word) (λ n. kept ((nat_lt 200001 n, TooMany) ∷ []) n)
+nodes_said word = then_step (natural_word (2 ^ 127) word) (λ n. kept ((nat_lt MOST_NODES n, TooMany) ∷ []) n)
 
 abbrev pub nodes_line : Words → Says ℕ
 nodes_line = labelled (codes "NODES") (sole nodes_said)

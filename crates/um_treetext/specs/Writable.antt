@@ -14,6 +14,7 @@ use Rattle.um_model.specs.declared.branch.Branch.{Branch}
 use Rattle.um_model.specs.declared.branch.Branch.TheVariants as branch
 use Rattle.um_model.specs.declared.tree.Solved.{Solved}
 use Rattle.um_model.specs.AnswerValues.{AnswerValue, NodeValue, WhatValue, Split, Bounded, Empty, Void, OpenLeaf}
+use Rattle.um_model.specs.declared.limits.TheConstants.{MOST_NODES}
 use Rattle.um_treetext.specs.Words.{is_short}
 use Rattle.um_treetext.specs.FrontLines.{is_name_byte}
 
@@ -118,5 +119,5 @@ pub record IsWritable (d : DeckValue) (a : AnswerValue) : Type 0 where
   pub bound : IfSome a.bound IsWritableFraction
   pub point : IfSome a.point (IsWritablePoint d)
   pub ray : IfSome a.ray (IsWritableRay d)
-  pub count : length a.tree ≤ 200001
+  pub count : length a.tree ≤ MOST_NODES
   pub nodes : All (IsWritableNode d) a.tree

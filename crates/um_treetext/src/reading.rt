@@ -3,6 +3,7 @@
 ghost use Rattle.std.specs.Prelude.{◌≡◌, ◌<◌, ◌≤◌, ◌++◌, ◌∷◌, [], codes, length, map, IfOk, MatchResult, Ok, Err};
 ghost use Rattle.um_model.specs.AnswerValues.{plain_answer, plain_node};
 ghost use Rattle.um_model.specs.Checkable.{IsCheckable};
+ghost use Rattle.um_model.specs.declared.limits.TheConstants.{MOST_NODES};
 ghost use Rattle.um_treetext.specs.Calls.{Gives, ReadsAs};
 ghost use Rattle.um_treetext.specs.Reading.{end_read, nodes_read, tree_read};
 ghost use Rattle.um_treetext.specs.Words.{ended, labelled};
@@ -61,7 +62,7 @@ fn read_nodes(
     deck: &Deck,
     count: u32,
 ) -> Result<Tree, TreeFault>
-    requires { count ≤ 200001 }
+    requires { count ≤ MOST_NODES }
     ensures { ReadsAs (map plain_node) (nodes_read deck.now count 10 lines.old) result lines.new }
 {
     let mut tree = Tree::new(alloc);
@@ -75,7 +76,7 @@ fn read_nodes(
 
 /// Appends a node to a tree that is not full.
 fn push(tree: &mut Tree, node: Node) -> Result<(), TreeWord>
-    requires { length tree.old < 200001 }
+    requires { length tree.old < MOST_NODES }
     ensures { MatchResult result (λ _. tree.new ≡ tree.old ++ node ∷ []) (λ fault. fault ≡ TreeWord.Memory) }
 {
     match tree.push(node) {

@@ -13,7 +13,8 @@ use crate::reading::parts::{read_point, read_ray};
 use crate::reading::words::LineWords;
 use std::alloc::Global;
 use um_deck::Deck;
-use um_model::{Point, Tree};
+use um_model::Point;
+use um_model::limits::MOST_NODES;
 use um_num::{Frac, List};
 
 /// What the lines from the objective up to the count of nodes say.
@@ -33,7 +34,7 @@ pub fn read_values(
     deck: &Deck,
 ) -> Result<Values, TreeFault>
     ensures values { ReadsAs plain_values (values_read deck.now lines.old) result lines.new }
-    ensures within { IfOk result (λ values. values.nodes ≤ 200001) }
+    ensures within { IfOk result (λ values. values.nodes ≤ MOST_NODES) }
 {
     let columns = deck.columns().len();
     let objective = at_line(6, read_fraction(lines.next(5)?, b"OBJECTIVE"))?;
@@ -63,7 +64,7 @@ fn read_fraction(mut words: LineWords<'_>, label: &[u8]) -> Result<Option<Frac>,
 /// How many nodes there are.
 fn read_count(mut words: LineWords<'_>) -> Result<u32, TreeWord>
     ensures value { result ≡ nodes_line words.entry }
-    ensures within { IfOk result (λ count. count ≤ 200001) }
+    ensures within { IfOk result (λ count. count ≤ MOST_NODES) }
 {
     words.fixed(b"NODES")?;
     let count = node_count(words.word()?)?;
@@ -74,10 +75,10 @@ fn read_count(mut words: LineWords<'_>) -> Result<u32, TreeWord>
 /// At most as many as a tree holds.
 fn node_count(word: &[u8]) -> Result<u32, TreeWord>
     ensures value { result ≡ nodes_said word.now }
-    ensures within { IfOk result (λ count. count ≤ 200001) }
+    ensures within { IfOk result (λ count. count ≤ MOST_NODES) }
 {
     let count = from_zero(word)?;
-    if count > Tree::MOST as i128 {
+    if count > MOST_NODES as i128 {
         return Err(TreeWord::TooMany);
     }
     Ok(count as u32)
