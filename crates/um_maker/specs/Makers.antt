@@ -1,5 +1,5 @@
 -- What a maker keeps, and the rules of its calls on parts that were found.
-use Rattle.std.specs.Prelude.{◌≡◌, ℕ, ◌*◌, ◌^◌, Bool, ◌&&◌, not, false, nat_eq, nat_le, List, [], ◌∷◌, Option, count_by}
+use Rattle.std.specs.Prelude.{◌≡◌, ℕ, Bool, ◌&&◌, not, false, nat_eq, nat_le, List, [], ◌∷◌, Option, count_by}
 use Rattle.std.specs.List.{list_any}
 use Rattle.std.specs.Option.{option_map_or}
 use Rattle.um_num.specs.declared.decimal.Decimal.{Decimal}
@@ -10,6 +10,7 @@ use Rattle.um_statements.specs.Scaled.{is_whole_at, is_within_at}
 use Rattle.um_statements.specs.Said.{Said, RowSaid}
 use Rattle.um_statements.specs.CallRules.{Rule, is_n, is_at, is_zero, is_large_bound, objective_place, has_kept_arc, arc_columns as columns_with_arcs}
 use Rattle.um_statements.specs.WellSaid.{IsSaid}
+use Rattle.um_model.specs.declared.limits.TheConstants.{MOST_ARC_COLUMNS, MOST_WEIGHT}
 
 -- What was said is well said. Beside it a maker keeps the place of the objective, how many rows are not N, and
 -- how many columns have an arc that is not 0.
@@ -29,7 +30,7 @@ value_rules kind value =
 abbrev pub weight_rules : Option Decimal → List Rule
 weight_rules weight =
     (option_map_or (λ v. not (is_whole_at 6 v)) weight false, TooFine)
-    ∷ (option_map_or (λ v. not (is_within_at (2 ^ 31 * 10 ^ 6) 6 v)) weight false, TooLarge) ∷ []
+    ∷ (option_map_or (λ v. not (is_within_at MOST_WEIGHT 6 v)) weight false, TooLarge) ∷ []
 
 -- an arc stands in this row and at this column
 abbrev pub has_arc : List ArcPart → ℕ → ℕ → Bool
@@ -44,4 +45,4 @@ abbrev pub arc_rules : Said → ℕ → ℕ → Decimal → List Rule
 arc_rules said row column value =
     (not (is_at (objective_place said.rows) row), ArcRow)
     ∷ (has_arc said.arcs row column, TwiceEntry)
-    ∷ (adds_column said column value && nat_le 64 (columns_with_arcs said), TooMany) ∷ []
+    ∷ (adds_column said column value && nat_le MOST_ARC_COLUMNS (columns_with_arcs said), TooMany) ∷ []

@@ -14,13 +14,9 @@ use crate::{Fault, RowKind};
 use std::alloc::Global;
 use std::marker::Model;
 use um_made::{ColumnPart, RowPart, SetPart};
+use um_model::limits::{MOST_ROW_LINES, MOST_ROWS};
 use um_num::{Decimal, List, Memory, Name};
 use um_statements::ArcPart;
-
-/// The greatest number of rows, N rows among them.
-const MOST_ROWS: usize = 1024;
-/// The greatest number of sided rows: rows of two sides at most, that are not N.
-const MOST_SIDED_ROWS: usize = 512;
 
 /// What was told of a deck so far. Contracts see it as that.
 ///
@@ -107,7 +103,7 @@ impl DeckMaker {
     fn is_full_of_rows(&self, kind: RowKind) -> bool
         ensures { result ≡ is_full_of_rows self.now kind }
     {
-        self.rows.len() >= MOST_ROWS || is_sided(kind) && self.sided_rows >= MOST_SIDED_ROWS
+        self.rows.len() >= MOST_ROW_LINES || is_sided(kind) && self.sided_rows >= MOST_ROWS
     }
 
     /// Adds a row. Faults: `TwiceRow`; `TooMany` behind 1,024 rows, or 512 that are not N; `Memory`.
@@ -149,7 +145,7 @@ impl DeckMaker {
     #[tactic(auto, using(crate::proofs::RowSteps::place_of_row))]
     fn row_place(&self, row: &[u8]) -> Option<usize>
         ensures place { result ≡ row_place self.now.rows row.now }
-        ensures within { IfSome result (λ place. place < 1024) }
+        ensures within { IfSome result (λ place. place < MOST_ROW_LINES) }
         ensures there { IfSome result (λ place. place < length self.now.rows) }
     {
         self.rows.place(row)

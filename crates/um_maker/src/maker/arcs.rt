@@ -4,14 +4,13 @@ ghost use Rattle.std.specs.Prelude.{◌≡◌, ◌<◌, length, nat_eq, None, So
 ghost use Rattle.um_statements.specs.CallRules.{first_fault, is_zero};
 ghost use Rattle.um_statements.specs.WellSaid.{IsNumber};
 ghost use Rattle.um_maker.specs.Makers.{has_arc, arc_rules, adds_column};
+ghost use Rattle.um_model.specs.declared.limits.TheConstants.{MOST_ROW_LINES, MOST_COLUMNS};
 
 use crate::Fault;
 use crate::maker::DeckMaker;
+use um_model::limits::MOST_ARC_COLUMNS;
 use um_num::{Decimal, Memory};
 use um_statements::ArcPart;
-
-/// The greatest number of columns with an arc that is not 0.
-const MOST_ARC_COLUMNS: usize = 64;
 
 impl DeckMaker {
     ghost use Rattle.um_statements.specs.declared.fault.Fault.TheVariants.{UnknownRow, UnknownColumn};
@@ -37,7 +36,7 @@ impl DeckMaker {
 
     fn known_row(&self, row: &[u8]) -> Result<usize, Fault>
         ensures place { IfOk result (λ place. row_place self.now.rows row.now ≡ Some place) }
-        ensures within { IfOk result (λ place. place < 1024) }
+        ensures within { IfOk result (λ place. place < MOST_ROW_LINES) }
         ensures unknown { IfErr result (λ fault. (fault ≡ UnknownRow) × (row_place self.now.rows row.now ≡ None)) }
     {
         match self.row_place(row) {
@@ -48,7 +47,7 @@ impl DeckMaker {
 
     fn known_column(&self, column: &[u8]) -> Result<usize, Fault>
         ensures place { IfOk result (λ place. column_place self.now.columns column.now ≡ Some place) }
-        ensures within { IfOk result (λ place. place < 4096) }
+        ensures within { IfOk result (λ place. place < MOST_COLUMNS) }
         ensures unknown { IfErr result (λ fault. (fault ≡ UnknownColumn) × (column_place self.now.columns column.now ≡ None)) }
     {
         match self.column_place(column) {
@@ -106,8 +105,8 @@ impl DeckMaker {
     ) -> Result<(), Memory>
         requires row { row_place self.old.rows row.now ≡ Some row_at }
         requires column { column_place self.old.columns column.now ≡ Some column_at }
-        requires row_within { row_at < 1024 }
-        requires column_within { column_at < 4096 }
+        requires row_within { row_at < MOST_ROW_LINES }
+        requires column_within { column_at < MOST_COLUMNS }
         requires number { IsNumber value.now }
         requires allowed { first_fault (arc_rules self.old row_at column_at value.now) ≡ None }
         ensures ok { OnOk result (self.new ≡ with_statement (Arc row.now column.now value.now) self.old) }

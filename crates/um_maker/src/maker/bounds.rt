@@ -12,11 +12,10 @@ ghost use Rattle.um_maker.specs.Makers.{value_rules};
 use crate::maker::DeckMaker;
 use crate::{BoundKind, Fault};
 use um_made::scaled::{decimals, scaled_within, times_ten};
+use um_model::limits::MOST_END;
 use um_num::Decimal;
 use um_statements::{End, Ends};
 
-/// The greatest size of an end, in thousandths.
-const MOST_END: u64 = 10_000_000_000;
 /// In thousandths: a high end from here on is infinite, and a low end from its negative down.
 const ENDLESS: u128 = 100_000_000_000_000_000_000_000;
 

@@ -2,15 +2,14 @@
 
 ghost use Rattle.std.specs.Prelude.{◌≡◌, ◌<◌, length, false, OnOk, OnErr, IfSome, Some};
 ghost use Rattle.um_statements.specs.CallRules.{holds_row};
+ghost use Rattle.um_model.specs.declared.limits.TheConstants.{MOST_ROW_LINES};
 
 use crate::Fault;
 use crate::maker::DeckMaker;
 use um_made::ColumnPart;
+use um_model::limits::MOST_COLUMNS;
 use um_num::{Decimal, List, Memory};
 use um_statements::{Ends, EntryPart};
-
-/// The greatest number of columns.
-const MOST_COLUMNS: usize = 4096;
 
 impl DeckMaker {
     ghost use Rattle.um_statements.specs.CallRules.{has_column, is_full_of_columns, last_has, holds_row, with_statement};
@@ -29,7 +28,7 @@ impl DeckMaker {
     #[tactic(auto, using(crate::proofs::ColumnSteps::place_of_column))]
     pub(super) fn column_place(&self, column: &[u8]) -> Option<usize>
         ensures place { result ≡ column_place self.now.columns column.now }
-        ensures within { IfSome result (λ place. place < 4096) }
+        ensures within { IfSome result (λ place. place < MOST_COLUMNS) }
         ensures there { IfSome result (λ place. place < length self.now.columns) }
     {
         self.columns.place(column)
@@ -112,7 +111,7 @@ impl DeckMaker {
     fn push_entry(&mut self, row: &[u8], place: usize, value: &Decimal) -> Result<(), Memory>
         requires some { 0 < length self.old.columns }
         requires place { row_place self.old.rows row.now ≡ Some place }
-        requires within { place < 1024 }
+        requires within { place < MOST_ROW_LINES }
         requires number { IsNumber value.now }
         requires new { last_has (λ (c : ColumnSaid). holds_row place c.entries) self.old.columns ≡ false }
         ensures ok { OnOk result (self.new ≡ with_statement (Entry row.now value.now) self.old) }

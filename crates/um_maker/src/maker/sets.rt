@@ -8,18 +8,15 @@ ghost use Rattle.um_statements.specs.Scaled.{times_ten};
 ghost use Rattle.um_statements.specs.CallRules.{first_fault};
 ghost use Rattle.um_statements.specs.WellSaid.{IsNumber};
 ghost use Rattle.um_maker.specs.Makers.{weight_rules};
+ghost use Rattle.um_model.specs.declared.limits.TheConstants.{MOST_COLUMNS};
 
 use crate::maker::DeckMaker;
 use crate::{Fault, SetKind};
 use um_made::SetPart;
 use um_made::scaled::{decimals, scaled_within};
+use um_model::limits::{MOST_SETS, MOST_WEIGHT};
 use um_num::{Decimal, List, Memory};
 use um_statements::MemberPart;
-
-/// The greatest number of sets.
-const MOST_SETS: usize = 256;
-/// The greatest size of a weight, in millionths.
-const MOST_WEIGHT: u64 = 2_147_483_648_000_000;
 
 impl DeckMaker {
     ghost use Rattle.um_statements.specs.declared.fault.Fault.TheVariants.{UnknownRow};
@@ -67,7 +64,7 @@ impl DeckMaker {
     }
 
     fn is_full_of_sets(&self) -> bool
-        ensures { result ≡ nat_le 256 (length self.now.sets) }
+        ensures { result ≡ nat_le MOST_SETS (length self.now.sets) }
     {
         self.sets.len() >= MOST_SETS
     }
@@ -83,7 +80,7 @@ impl DeckMaker {
         requires place { place ≡ option_and_then (row_place self.old.rows) (option_copied reference) }
         requires known { option_map_or (λ row. not (has_row self.old row)) (option_copied reference) false ≡ false }
         requires new { has_set self.old name.now ≡ false }
-        requires room { nat_le 256 (length self.old.sets) ≡ false }
+        requires room { nat_le MOST_SETS (length self.old.sets) ≡ false }
         ensures ok { OnOk result (self.new ≡ with_statement (Set kind name.now (option_copied reference.entry)) self.old) }
         ensures err { OnErr result (self.new ≡ self.old) }
     {
@@ -145,7 +142,7 @@ impl DeckMaker {
     ) -> Result<(), Memory>
         requires some { 0 < length self.old.sets }
         requires place { column_place self.old.columns column.now ≡ Some place }
-        requires within { place < 4096 }
+        requires within { place < MOST_COLUMNS }
         requires number { ForSome (option_copied weight) IsNumber }
         requires fits { first_fault (weight_rules (option_copied weight)) ≡ None }
         requires millionths { millionths ≡ option_map (λ v. times_ten v 6) (option_copied weight) }
