@@ -1,0 +1,12 @@
+NAME rhs
+ROWS
+ N cost
+ G c
+COLUMNS
+ x cost 2 c 1
+RHS
+ RHS1 cost 100 c 1
+BOUNDS
+ LO BND1 x 3
+ UP BND1 x 10
+ENDATA

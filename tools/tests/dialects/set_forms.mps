@@ -1,0 +1,36 @@
+* Sets under other headings, with priorities, and with a reference row.
+NAME SETFORMS
+ROWS
+ N COST
+ L ROW
+ N WEIGHTS
+COLUMNS
+ A COST -1 ROW 1
+ A WEIGHTS 1
+ B COST -2 ROW 1
+ B WEIGHTS 2
+ C COST -3 ROW 1
+ C WEIGHTS 3
+RHS
+ RHS ROW 7
+BOUNDS
+ UP BND A 3
+ UP BND B 2
+ UP BND C 1
+SOS1
+ SOS FIRST 4
+ SOS A 1
+ SOS B 2
+SOS2
+ SOS SECOND
+ A 3
+ B 2
+ C 1
+SETS
+ S2 SET THIRD WEIGHTS
+ A
+ B
+ S1 FOURTH 1
+ SET B 1
+ SET C 2
+ENDATA
