@@ -8,7 +8,13 @@ use Rattle.um_loop.specs.declared.search.Halt.{Halt}
 use Rattle.um_loop.specs.declared.search.Ending.{Ending}
 use Rattle.um_loop.specs.declared.search.Ending.TheVariants as ending
 use Rattle.um_loop.specs.Goings.{HasRun}
+use Rattle.um_search.specs.declared.budget.Budget.{Budget}
 use Rattle.um_search.specs.Endings.{HasRunOut, IsHalted, IsFound}
+
+-- what holds of a deck and a budget holds of those of a task that are the same
+module _ (d e : DeckValue) (same : d ≡ e) (b c : Budget) (equal : b ≡ c) where
+  pub in_task : (P : DeckValue → Budget → Type 0) → P d b → P e c
+  in_task P h = subst (λ (x : DeckValue). P x c) same (subst (P d) equal h)
 
 module _ (d : DeckValue) (start : State) (most nodes : ℕ) (led : Option Ending) (s : Search) (board : State) (left : ℕ) (run : HasRun d start most nodes led s board left) where
   pub over_of : led ≡ None → HasRunOut d most s

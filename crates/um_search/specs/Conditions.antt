@@ -14,3 +14,8 @@ pub record IsBudget (b : Budget) : Type 0 where
   pub some_pivots : 1 ≤ b.pivots
   pub pivots : b.pivots ≤ 10000000
   pub tolerance : b.tolerance ≡ pos 0
+
+-- what a search is asked for: the answer to this deck, within this budget
+pub record Task : Type 0 where
+  pub deck : DeckValue
+  pub budget : Budget

@@ -9,7 +9,7 @@ ghost use Rattle.um_model.specs.AnswerValues.{plain_answer};
 ghost use Rattle.um_model.specs.Checkable.{IsCheckable};
 ghost use Rattle.um_model.specs.Right.{IsRight};
 ghost use Rattle.um_relax.specs.Relaxations.{IsRelaxationOf};
-ghost use Rattle.um_search.specs.Conditions.{IsSearched, IsBudget};
+ghost use Rattle.um_search.specs.Conditions.{IsSearched, IsBudget, Task};
 ghost use Rattle.um_search.specs.Told.{TellsAnswer};
 
 use crate::budget::Budget;
@@ -69,15 +69,18 @@ fn search_on<B: Board>(
     board: &mut B,
     budget: Budget,
 ) -> Result<Answer, Memory>
+    ghost task: { Task }
+    requires same_deck { deck.now ≡ task.deck }
+    requires same_budget { budget ≡ task.budget }
     requires searched { IsSearched deck.now }
     requires budget { IsBudget budget }
     requires relaxed { IsRelaxationOf deck.now relaxation.old }
     requires frame { frame_of relaxation.old ≡ deck_frame deck.now }
     requires starts { IsStart (deck_frame deck.now) (B.state board.old) }
-    ensures accepted { IfOk result (λ answer. IsAccepted deck.now (plain_answer answer)) }
-    ensures right { IfOk result (λ answer. IsRight deck.now (plain_answer answer)) }
-    ensures checkable { IfOk result (λ answer. IsCheckable deck.now (plain_answer answer)) }
-    ensures tells { IfOk result (λ answer. TellsAnswer deck.now budget (plain_answer answer)) }
+    ensures accepted { IfOk result (λ answer. IsAccepted task.deck (plain_answer answer)) }
+    ensures right { IfOk result (λ answer. IsRight task.deck (plain_answer answer)) }
+    ensures checkable { IfOk result (λ answer. IsCheckable task.deck (plain_answer answer)) }
+    ensures tells { IfOk result (λ answer. TellsAnswer task.deck task.budget (plain_answer answer)) }
 {
     deck.known();
     let root = NodeBox::root(alloc, deck)?;
@@ -85,8 +88,8 @@ fn search_on<B: Board>(
     let mut left = budget.pivots;
     let ending = search.run(alloc, deck, relaxation, board, budget.nodes, &mut left)?;
     match ending {
-        None => finish(alloc, deck, search, budget),
-        Some(Ending::Halted(halt)) => stop(alloc, deck, search, halt, budget),
-        Some(Ending::Found(point)) => Ok(unbounded(alloc, deck, search, point, budget)),
+        None => finish(alloc, search),
+        Some(Ending::Halted(halt)) => stop(alloc, deck, search, halt),
+        Some(Ending::Found(point)) => Ok(unbounded(alloc, search, point)),
     }
 }

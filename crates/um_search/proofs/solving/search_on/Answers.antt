@@ -1,6 +1,14 @@
-use Rattle.std.proofs.Common.{◌≤◌, ◌∙◌, Some, ap, arith}
+use Rattle.std.proofs.Common.{◌≡◌, ◌≤◌, ◌∙◌, [], Option, Some, ap, subst, arith}
+use Rattle.std.specs.Prelude.{IfSome}
+use Rattle.um_model.specs.Values.{DeckValue}
+use Rattle.um_model.specs.WellFormed.{IsDeck}
+use Rattle.um_model.specs.Values.{plain_point}
 use Rattle.um_loop.specs.declared.search.Ending.{Ending}
-use Rattle.um_search.proofs.RunEnds.{over_of, halted_of, found_of}
+use Rattle.um_loop.specs.Goings.{IsNoGridEnding}
+use Rattle.um_loop.specs.Checkables.{AreCheckable}
+use Rattle.um_search.specs.declared.budget.Budget.{Budget}
+use Rattle.um_search.specs.Endings.{HasRunOut, IsHalted, IsFound}
+use Rattle.um_search.proofs.RunEnds.{in_task, over_of, halted_of, found_of}
 use Rattle.um_solving.proofs.RootBoxes.{full-root-law}
 use Rattle.um_search.proofs.solving.search_on.Goals as goal
 
@@ -14,16 +22,68 @@ run-requires g c =
     let begun = c.in_ok-search.ensures in
     let none = begun.solved in
     let within : c.in_ok-search.search.solved ≤ c.args.budget.nodes = omega (arith, none) in
-    λ lifetimes lives. (lives, (c.requires.searched.arcs, (c.requires.relaxed, (c.requires.frame, (begun.going s c.args.budget.pivots c.requires.starts belongs, (c.requires.budget.nodes, (within, begun.checkable)))))))
+    let r = c.requires.1.1.1 in
+    λ lifetimes lives. (lives, (r.0.arcs, (r.1.1.0, (r.1.1.1.0, (begun.going s c.args.budget.pivots r.1.1.1.1 belongs, (r.1.0.nodes, (within, begun.checkable)))))))
 
-pub finish-requires-clause-run_out : goal.finish-requires-clause-run_out
-finish-requires-clause-run_out g c =
-    over_of c.args.deck.now (g.B.Board.state c.args.board.now) c.args.budget.pivots c.args.budget.nodes c.in_ok-ending.ending c.run.new.self (g.B.Board.state c.run.new.board) c.run.new.left c.in_ok-ending.ensures.run c.in-None.is
+pub finish-requires : goal.finish-requires
+finish-requires g c =
+    let d = c.args.deck.now in
+    let b = c.args.budget in
+    let s = c.run.new.self in
+    let same : d ≡ g.task.deck = c.requires.1.0 in
+    let equal : b ≡ g.task.budget = c.requires.1.1.0 in
+    let led = c.in_ok-ending.ensures in
+    let out = over_of d (g.B.Board.state c.args.board.now) b.pivots b.nodes c.in_ok-ending.ending s (g.B.Board.state c.run.new.board) c.run.new.left led.run c.in-None.is in (
+      subst IsDeck same c.known.ensures.formed,
+      (
+        subst (λ (x : DeckValue). x.arcs ≡ []) same c.requires.1.1.1.0.arcs,
+        (
+          in_task d g.task.deck same b g.task.budget equal (λ (x : DeckValue) (y : Budget). HasRunOut x y.pivots s) out,
+          (subst (λ (y : Budget). s.solved ≤ y.nodes) equal led.within, subst (λ (x : DeckValue). AreCheckable x s.growth) same led.checkable),
+        ),
+      ),
+    )
 
-pub stop-requires-clause-halted : goal.stop-requires-clause-halted
-stop-requires-clause-halted g c =
-    halted_of c.args.deck.now (g.B.Board.state c.args.board.now) c.args.budget.pivots c.args.budget.nodes c.in_ok-ending.ending c.run.new.self (g.B.Board.state c.run.new.board) c.run.new.left c.in_ok-ending.ensures.run c.in-Some-Halted.halt (c.in-Some-Halted.is ∙ ap (λ (e : Ending). Some e) c.in-Some-Halted.field-0-is)
+pub stop-requires : goal.stop-requires
+stop-requires g c =
+    let d = c.args.deck.now in
+    let b = c.args.budget in
+    let s = c.run.new.self in
+    let halt = c.in-Some-Halted.halt in
+    let equal : b ≡ g.task.budget = c.requires.1.1.0 in
+    let led = c.in_ok-ending.ensures in
+    let is = c.in-Some-Halted.is ∙ ap (λ (e : Ending). Some e) c.in-Some-Halted.field-0-is in
+    let halted = halted_of d (g.B.Board.state c.args.board.now) b.pivots b.nodes c.in_ok-ending.ending s (g.B.Board.state c.run.new.board) c.run.new.left led.run halt is in (
+      c.known.ensures.formed,
+      (
+        c.requires.1.1.1.0.arcs,
+        (
+          subst (λ (y : Budget). IsHalted d y.pivots y.nodes s halt) equal halted,
+          (
+            subst (λ (o : Option Ending). IfSome o IsNoGridEnding) is led.no_grid,
+            (subst (λ (y : Budget). s.solved ≤ y.nodes) equal led.within, led.checkable),
+          ),
+        ),
+      ),
+    )
 
-pub unbounded-requires-clause-found : goal.unbounded-requires-clause-found
-unbounded-requires-clause-found g c =
-    found_of c.args.deck.now (g.B.Board.state c.args.board.now) c.args.budget.pivots c.args.budget.nodes c.in_ok-ending.ending c.run.new.self (g.B.Board.state c.run.new.board) c.run.new.left c.in_ok-ending.ensures.run c.in-Some-Found.point (c.in-Some-Found.is ∙ ap (λ (e : Ending). Some e) c.in-Some-Found.field-0-is)
+pub unbounded-requires : goal.unbounded-requires
+unbounded-requires g c =
+    let d = c.args.deck.now in
+    let b = c.args.budget in
+    let s = c.run.new.self in
+    let point = c.in-Some-Found.point in
+    let same : d ≡ g.task.deck = c.requires.1.0 in
+    let equal : b ≡ g.task.budget = c.requires.1.1.0 in
+    let led = c.in_ok-ending.ensures in
+    let is = c.in-Some-Found.is ∙ ap (λ (e : Ending). Some e) c.in-Some-Found.field-0-is in
+    let found = found_of d (g.B.Board.state c.args.board.now) b.pivots b.nodes c.in_ok-ending.ending s (g.B.Board.state c.run.new.board) c.run.new.left led.run point is in (
+      subst IsDeck same c.known.ensures.formed,
+      (
+        subst (λ (x : DeckValue). x.arcs ≡ []) same c.requires.1.1.1.0.arcs,
+        (
+          in_task d g.task.deck same b g.task.budget equal (λ (x : DeckValue) (y : Budget). IsFound x y.pivots s (plain_point point)) found,
+          subst (λ (y : Budget). s.solved ≤ y.nodes) equal led.within,
+        ),
+      ),
+    )
