@@ -4,7 +4,7 @@ use Rattle.std.proofs.lemmas.List.{length_push}
 use Rattle.std.specs.Prelude.{Bool}
 use Rattle.um_num.specs.declared.decimal.Decimal.{Decimal}
 use Rattle.um_statements.specs.declared.fault.Fault.{Fault}
-use Rattle.um_statements.specs.Statements.{Name, Column, Entry}
+use Rattle.um_statements.specs.Statements.{Name, Column, EntryTold}
 use Rattle.um_statements.specs.Said.{Said}
 use Rattle.um_statements.specs.CallRules.{with_statement, bare_ends, change_last}
 use Rattle.um_statements.specs.Tells.{Tells}
@@ -20,7 +20,7 @@ column_begun name integer old new (Ok x) told =
     let more = length_push old.columns (record { name = name; ends = bare_ends integer; entries = [] }) in subst (λ (said : Said). 0 < length said.columns) (sym told.1) (omega (arith, more))
 column_begun name integer old new (Err fault) told = tt
 
-pub column_kept : (row : Name) (value : Decimal) (old new : Said) (result : Result Unit Fault) → Tells (Entry row value) old result new → 0 < length old.columns → 0 < length new.columns
+pub column_kept : (row : Name) (value : Decimal) (old new : Said) (result : Result Unit Fault) → Tells (EntryTold row value) old result new → 0 < length old.columns → 0 < length new.columns
 unfolding with_statement
 column_kept row value old new (Ok x) told some = subst (λ (said : Said). 0 < length said.columns) (sym told.1) (some_changed _ old.columns some)
 column_kept row value old new (Err fault) told some = subst (λ (said : Said). 0 < length said.columns) (sym told.0) some

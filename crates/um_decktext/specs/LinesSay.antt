@@ -7,7 +7,7 @@ use Rattle.um_num.specs.declared.decimal.Decimal.{Decimal}
 use Rattle.um_statements.specs.declared.fault.Fault.{Fault}
 use Rattle.um_statements.specs.declared.fault.Fault.TheVariants.{UnknownSection, SectionOrder, BadWords, UnknownKind, NoObjective, Marker}
 use Rattle.um_statements.specs.declared.parts.BoundKind.{BoundKind}
-use Rattle.um_statements.specs.Statements.{Name, Statement, Title, Sense, Row, Column, Entry, Side, Range, Bound}
+use Rattle.um_statements.specs.Statements.{Name, Statement, Title, Sense, RowTold, Column, EntryTold, Side, Range, Bound}
 use Rattle.um_statements.specs.CallRules.{Rule, first_fault}
 use Rattle.um_statements.specs.Tells.{Says}
 use Rattle.um_decktext.specs.declared.section.Section.{Section}
@@ -40,7 +40,7 @@ sense_line other = Err BadWords
 
 -- a line of ROWS: a kind and a name
 abbrev pub row_line : Words → Says
-row_line (kind ∷ name ∷ []) = kinds (row_kind kind) (λ k. Ok (Row k name ∷ []))
+row_line (kind ∷ name ∷ []) = kinds (row_kind kind) (λ k. Ok (RowTold k name ∷ []))
 row_line other = Err BadWords
 
 -- ---- COLUMNS
@@ -56,7 +56,7 @@ begun place column = if option_eq bytes_eq place.column (Some column) then [] el
 
 -- a line of a column's numbers: behind its name one or two rows, each with a number
 abbrev pub entry_line : Place → Words → Says
-entry_line place ws = then_step (pairs (drop 1 ws)) (λ ps. Ok (begun place (first_word ws) ++ map (λ p. Entry p.0 p.1) ps))
+entry_line place ws = then_step (pairs (drop 1 ws)) (λ ps. Ok (begun place (first_word ws) ++ map (λ p. EntryTold p.0 p.1) ps))
 
 -- a line of COLUMNS: a marker, or numbers of a column
 abbrev pub column_line : Place → Words → Says

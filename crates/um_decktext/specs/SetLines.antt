@@ -8,7 +8,7 @@ use Rattle.um_model.specs.declared.deck.SetKind.TheVariants.{S1, S2}
 use Rattle.um_statements.specs.declared.fault.Fault.{Fault}
 use Rattle.um_statements.specs.declared.fault.Fault.TheVariants.{BadWords, UnknownKind}
 use Rattle.um_statements.specs.declared.parts.BoundKind.TheVariants.{Sc}
-use Rattle.um_statements.specs.Statements.{Bound, Set, Member, Arc}
+use Rattle.um_statements.specs.Statements.{Bound, Set, MemberTold, ArcTold}
 use Rattle.um_statements.specs.Said.{Said}
 use Rattle.um_statements.specs.CallRules.{with_all}
 use Rattle.um_statements.specs.Tells.{Says, statements, says_fault}
@@ -29,8 +29,8 @@ set_head kind other = Err BadWords
 
 -- a member has a weight where its set has no reference row, and none where it has one; before all sets there are no members
 abbrev pub member_line : (wants_weight : Option Bool) → Words → Says
-member_line (Some true) (column ∷ word ∷ []) = then_step (number word) (λ v. Ok (Member column (Some v) ∷ []))
-member_line (Some false) (column ∷ []) = Ok (Member column None ∷ [])
+member_line (Some true) (column ∷ word ∷ []) = then_step (number word) (λ v. Ok (MemberTold column (Some v) ∷ []))
+member_line (Some false) (column ∷ []) = Ok (MemberTold column None ∷ [])
 member_line wants other = Err BadWords
 
 -- a line of SOS, behind a set whose members have weights or have none
@@ -45,7 +45,7 @@ weights_told ws = option_map (λ kind. nat_eq (length ws) 2) (set_kind (first_wo
 
 -- a line of ARCS: the kind `Q`, a row, a column and a number
 abbrev pub arc_says : Words → Says
-arc_says (kind ∷ row ∷ column ∷ word ∷ []) = if bytes_eq kind (codes "Q") then then_step (number word) (λ v. Ok (Arc row column v ∷ [])) else Err UnknownKind
+arc_says (kind ∷ row ∷ column ∷ word ∷ []) = if bytes_eq kind (codes "Q") then then_step (number word) (λ v. Ok (ArcTold row column v ∷ [])) else Err UnknownKind
 arc_says other = Err BadWords
 
 -- ---- SC bounds

@@ -8,7 +8,7 @@ use Rattle.um_num.specs.declared.decimal.Decimal.{Decimal}
 use Rattle.um_statements.specs.declared.parts.EntryPart.{EntryPart}
 use Rattle.um_statements.specs.declared.parts.ArcPart.{ArcPart}
 use Rattle.um_statements.specs.Said.{Said, RowSaid, ColumnSaid}
-use Rattle.um_statements.specs.Scaled.{IsSmall, least_scale, is_within_at}
+use Rattle.um_statements.specs.Scaled.{IsShortDecimal, least_scale, is_within_at}
 use Rattle.um_statements.specs.CallRules.{is_n, first_fault}
 use Rattle.um_statements.specs.Made.{entry_in, coefficients, arcs_in, row_scale, objective, sided_rows}
 use Rattle.um_statements.specs.DeckRules.{row_rules}
@@ -32,21 +32,21 @@ entry_holds P row (e ∷ es) all = by (nat_eq e.row row) (All-head (λ (x : Entr
     by true here rest = λ v is. let same : e.value ≡ v = cc in subst P same here
     by false here rest = rest
 
-entries_small : (n : ℕ) (es : List EntryPart) → All (IsEntrySaid n) es → All (λ (e : EntryPart). IsSmall e.value) es
+entries_small : (n : ℕ) (es : List EntryPart) → All (IsEntrySaid n) es → All (λ (e : EntryPart). IsShortDecimal e.value) es
 entries_small n es all = λ k d within. (all k d within).number.small
 
-pub coefficients_small : (said : Said) → IsSaid said → (row : ℕ) → All IsSmall (coefficients said row)
+pub coefficients_small : (said : Said) → IsSaid said → (row : ℕ) → All IsShortDecimal (coefficients said row)
 coefficients_small said well row =
-    all_given IsSmall (entry_in row) said.columns
-    (λ k d within. entry_holds IsSmall row (get_or said.columns k d).entries (entries_small (length said.rows) (get_or said.columns k d).entries (well.column_part.each k d within).parts))
+    all_given IsShortDecimal (entry_in row) said.columns
+    (λ k d within. entry_holds IsShortDecimal row (get_or said.columns k d).entries (entries_small (length said.rows) (get_or said.columns k d).entries (well.column_part.each k d within).parts))
 
-pub arcs_small : (said : Said) → IsSaid said → (row : ℕ) → All IsSmall (arcs_in said row)
+pub arcs_small : (said : Said) → IsSaid said → (row : ℕ) → All IsShortDecimal (arcs_in said row)
 arcs_small said well row =
-    all_given IsSmall (λ (a : ArcPart). if nat_eq a.row row then Some a.value else None) said.arcs
+    all_given IsShortDecimal (λ (a : ArcPart). if nat_eq a.row row then Some a.value else None) said.arcs
     (λ k d within. by (get_or said.arcs k d) (nat_eq (get_or said.arcs k d).row row) (well.arc_part.each k d within).number.small)
   where
-    by : (a : ArcPart) (b : Bool) → IsSmall a.value → ForSome (if b then Some a.value else None) IsSmall
-    by a true small = λ v is. let same : a.value ≡ v = cc in subst IsSmall same small
+    by : (a : ArcPart) (b : Bool) → IsShortDecimal a.value → ForSome (if b then Some a.value else None) IsShortDecimal
+    by a true small = λ v is. let same : a.value ≡ v = cc in subst IsShortDecimal same small
     by a false small = λ v is. cc
 
 -- ---- places
@@ -81,9 +81,9 @@ coefficient_whole said row scale c low inside =
     All-contains (λ (x : ColumnSaid). ForSome (entry_in row x) (λ (v : Decimal). pos 0 ≤ℤ (v.power +ℤ pos scale))) said.columns c
     (given_all (λ (v : Decimal). pos 0 ≤ℤ (v.power +ℤ pos scale)) (entry_in row) said.columns (all_whole scale (coefficients said row) low)) inside
 
-pub coefficient_small : (said : Said) → IsSaid said → (row : ℕ) (c : ColumnSaid) → Contains said.columns c → ForSome (entry_in row c) IsSmall
+pub coefficient_small : (said : Said) → IsSaid said → (row : ℕ) (c : ColumnSaid) → Contains said.columns c → ForSome (entry_in row c) IsShortDecimal
 coefficient_small said well row c inside =
-    All-contains (λ (x : ColumnSaid). ForSome (entry_in row x) IsSmall) said.columns c (given_all IsSmall (entry_in row) said.columns (coefficients_small said well row)) inside
+    All-contains (λ (x : ColumnSaid). ForSome (entry_in row x) IsShortDecimal) said.columns c (given_all IsShortDecimal (entry_in row) said.columns (coefficients_small said well row)) inside
 
 pub coefficient_fits : (said : Said) → IsSaid said → (p : ℕ × RowSaid) → first_fault (row_rules said p) ≡ None → (c : ColumnSaid) → Contains said.columns c → ForSome (entry_in p.0 c) (Fits (2 ^ 31) (row_scale said p.0 p.1))
 coefficient_fits said well p fine c inside = λ v is.

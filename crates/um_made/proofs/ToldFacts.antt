@@ -5,7 +5,7 @@ use Rattle.std.proofs.lemmas.List.{length-map, get_or-map}
 use Rattle.um_num.specs.declared.decimal.Decimal.{Decimal}
 use Rattle.um_statements.specs.Said.{Said, RowSaid}
 use Rattle.um_statements.specs.Statements.{Name}
-use Rattle.um_statements.specs.Scaled.{IsSmall}
+use Rattle.um_statements.specs.Scaled.{IsShortDecimal}
 use Rattle.um_statements.specs.Made.{coefficients, arcs_in, of_objective, objective_scale, for_minimising, side_at}
 use Rattle.um_made.specs.declared.rows.Objective.{Objective}
 use Rattle.um_statements.specs.WellSaid.{IsSaid, IsRowSaid, IsColumnSaid, IsSetSaid}
@@ -56,11 +56,11 @@ module _ (t : Told) (rows : List RowNumbers) (are : AreNumbers (said t) rows) (i
   pub arcs_at : r.arcs.items ≡ arcs_in (said t) i
   arcs_at = ap (λ (x : RowNumbers). x.arcs.items) is ∙ are.arcs_there i r inside
 
-  pub small_coefficients : IsSaid (said t) → All IsSmall r.coefficients.items
-  small_coefficients well = subst (All IsSmall) (sym coefficients_at) (coefficients_small (said t) well i)
+  pub small_coefficients : IsSaid (said t) → All IsShortDecimal r.coefficients.items
+  small_coefficients well = subst (All IsShortDecimal) (sym coefficients_at) (coefficients_small (said t) well i)
 
-  pub small_arcs : IsSaid (said t) → All IsSmall r.arcs.items
-  small_arcs well = subst (All IsSmall) (sym arcs_at) (arcs_small (said t) well i)
+  pub small_arcs : IsSaid (said t) → All IsShortDecimal r.arcs.items
+  small_arcs well = subst (All IsShortDecimal) (sym arcs_at) (arcs_small (said t) well i)
 
 pub slots_are : (t : Told) (es fs : List EntryPart) (n : ℕ) (slots : List (Option Decimal)) → AreSlots es n slots → es ≡ fs → n ≡ length t.rows.items → AreSlots fs (length (said t).rows) slots
 slots_are t es fs n slots are same count =

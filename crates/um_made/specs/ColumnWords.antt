@@ -5,14 +5,14 @@ use Rattle.std.specs.List.{Contains}
 use Rattle.std.specs.List.{find}
 use Rattle.um_num.specs.declared.decimal.Decimal.{Decimal}
 use Rattle.um_model.specs.Values.{ColumnValue}
-use Rattle.um_model.specs.declared.deck.Entry.{Entry as DeckEntry}
+use Rattle.um_model.specs.declared.deck.Entry.{Entry}
 use Rattle.um_model.specs.declared.limits.TheConstants.{MOST_ARC_END}
 use Rattle.um_statements.specs.declared.fault.Fault.TheVariants.{TooLarge, SemiLower, CrossedBounds, NotFinite, LowerNotZero, ArcInSet}
 use Rattle.um_statements.specs.declared.parts.Ends.{Ends}
 use Rattle.um_statements.specs.declared.parts.EntryPart.{EntryPart}
 use Rattle.um_statements.specs.Statements.{Name}
 use Rattle.um_statements.specs.Said.{Said, ColumnSaid}
-use Rattle.um_statements.specs.Scaled.{IsSmall, times_ten, is_within_at}
+use Rattle.um_statements.specs.Scaled.{IsShortDecimal, times_ten, is_within_at}
 use Rattle.um_statements.specs.CallRules.{Rule, is_zero}
 use Rattle.um_statements.specs.Made.{low_end, high_end, threshold, column_made}
 use Rattle.um_statements.specs.DeckRules.{is_above, is_below_zero_or_none, are_crossed}
@@ -54,12 +54,12 @@ pub record AreSlots (entries : List EntryPart) (count : ℕ) (slots : List (Opti
 
 -- a number that is whole at the scale, and then no more than this
 pub record Fits (most scale : ℕ) (v : Decimal) : Type 0 where
-  pub small : IsSmall v
+  pub small : IsShortDecimal v
   pub whole : pos 0 ≤ℤ (v.power +ℤ pos scale)
   pub within : is_within_at most scale v ≡ true
 
 -- a row of the deck by its number, and what stands in it, scaled; 0 is not kept
-abbrev pub entry_of : List (Option Decimal) → ℕ × SidedRow → Option DeckEntry
+abbrev pub entry_of : List (Option Decimal) → ℕ × SidedRow → Option Entry
 entry_of slots p = option_and_then (λ v. if is_zero v then None else Some (record { row = p.0; value = times_ten v p.1.scale })) (slice_index_or slots p.1.place None)
 
 -- the column but for its name

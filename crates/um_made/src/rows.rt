@@ -1,7 +1,7 @@
 //! The objective and the rows of a deck, but for their names.
 
 ghost use Rattle.std.specs.Prelude.{◌≡◌, ◌<◌, length, map, flat_map, All, MatchOption, IfSome, Some, None, slice_get};
-ghost use Rattle.um_statements.specs.Scaled.{IsSmall};
+ghost use Rattle.um_statements.specs.Scaled.{IsShortDecimal};
 ghost use Rattle.um_statements.specs.CallRules.{is_n};
 ghost use Rattle.um_statements.specs.WellSaid.{IsRowSaid};
 ghost use Rattle.um_statements.specs.Made.{objective, sided_rows};
@@ -104,8 +104,8 @@ impl Told {
 
 /// A row's scale and sides, or the first of its rules that is broken.
 fn scaled_row(numbers: &RowNumbers, row: &(Name, RowPart)) -> Result<Scaled, Fault>
-    requires coefficients { All IsSmall numbers.now.coefficients.items }
-    requires arcs { All IsSmall numbers.now.arcs.items }
+    requires coefficients { All IsShortDecimal numbers.now.coefficients.items }
+    requires arcs { All IsShortDecimal numbers.now.arcs.items }
     requires beside { IsRowSaid (row_said row.now) }
     ensures { Keeps (rules_of_row numbers.now.coefficients.items numbers.now.arcs.items (row_said row.now)) (IsScaled numbers.now.coefficients.items numbers.now.arcs.items (row_said row.now)) result }
 {
@@ -131,8 +131,8 @@ fn scaled_row(numbers: &RowNumbers, row: &(Name, RowPart)) -> Result<Scaled, Fau
 
 /// Whether a coefficient or an arc is too large at the scale.
 fn are_large(scale: u32, coefficients: &[Decimal], arcs: &[Decimal]) -> bool
-    requires coefficients { All IsSmall coefficients.now }
-    requires arcs { All IsSmall arcs.now }
+    requires coefficients { All IsShortDecimal coefficients.now }
+    requires arcs { All IsShortDecimal arcs.now }
     requires scale { scale ≤ MOST_SCALE }
     requires coefficients_whole { least_scale coefficients.now ≤ scale }
     requires arcs_whole { least_scale arcs.now ≤ scale }
@@ -143,7 +143,7 @@ fn are_large(scale: u32, coefficients: &[Decimal], arcs: &[Decimal]) -> bool
 
 /// Whether all these numbers are no more than this at the scale.
 fn are_within_at(most: u64, scale: u32, numbers: &[Decimal]) -> bool
-    requires small { All IsSmall numbers.now }
+    requires small { All IsShortDecimal numbers.now }
     requires scale { scale ≤ MOST_SCALE }
     requires whole { least_scale numbers.now ≤ scale }
     ensures { result ≡ list_all (is_within_at most scale) numbers.now }

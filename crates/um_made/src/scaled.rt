@@ -1,7 +1,7 @@
 //! Decimal numbers at a scale, which makes them whole.
 
 ghost use Rattle.std.specs.Prelude.{◌≡◌, ◌≤◌, ◌<◌, ◌^◌, MatchOption, IsTrue, All, unsigned_abs, pos, ◌+ℤ◌, ◌≤ℤ◌, if◌then◌else◌, Some, None};
-ghost use Rattle.um_statements.specs.Scaled.{decimals, least_scale, times_ten, is_within_at, IsSmall};
+ghost use Rattle.um_statements.specs.Scaled.{decimals, least_scale, times_ten, is_within_at, IsShortDecimal};
 
 use um_num::Decimal;
 
@@ -30,7 +30,7 @@ pub fn least_scale(values: &[Decimal]) -> u32
 
 /// The number times ten to the scale, which must be whole; `None` where its size is 2^127 or more.
 pub fn times_ten(value: &Decimal, scale: u32) -> Option<i128>
-    requires small { IsSmall value.now }
+    requires small { IsShortDecimal value.now }
     requires low { scale ≤ 10 }
     requires whole { pos 0 ≤ℤ (value.now.power +ℤ pos scale) }
     ensures { MatchOption result (2 ^ 127 ≤ unsigned_abs (times_ten value.now scale)) (λ z. z ≡ times_ten value.now scale) }
@@ -47,7 +47,7 @@ pub fn times_ten(value: &Decimal, scale: u32) -> Option<i128>
 
 /// How many zeros stand behind the digits at the scale.
 fn zeros(value: &Decimal, scale: u32) -> u32
-    requires small { IsSmall value.now }
+    requires small { IsShortDecimal value.now }
     requires low { scale ≤ 10 }
     requires whole { pos 0 ≤ℤ (value.now.power +ℤ pos scale) }
     ensures { pos result ≡ value.now.power +ℤ pos scale }
@@ -57,7 +57,7 @@ fn zeros(value: &Decimal, scale: u32) -> u32
 
 /// Whether the number is no more than this at the scale.
 pub fn is_within_at(most: u64, scale: u32, value: &Decimal) -> bool
-    requires small { IsSmall value.now }
+    requires small { IsShortDecimal value.now }
     requires low { scale ≤ 10 }
     requires whole { pos 0 ≤ℤ (value.now.power +ℤ pos scale) }
     ensures { result ≡ is_within_at most scale value.now }
@@ -70,7 +70,7 @@ pub fn is_within_at(most: u64, scale: u32, value: &Decimal) -> bool
 
 /// The number at the scale, where it is no more than `most`.
 pub fn scaled_within(most: u64, scale: u32, value: &Decimal) -> Option<i64>
-    requires small { IsSmall value.now }
+    requires small { IsShortDecimal value.now }
     requires low { scale ≤ 10 }
     requires whole { pos 0 ≤ℤ (value.now.power +ℤ pos scale) }
     requires most { most < 2 ^ 63 }

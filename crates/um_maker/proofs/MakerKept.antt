@@ -6,9 +6,9 @@ use Rattle.std.proofs.lemmas.List.{length-map}
 use Rattle.um_num.specs.declared.decimal.Decimal.{Decimal}
 use Rattle.um_statements.specs.declared.parts.RowKind.{RowKind}
 use Rattle.um_statements.specs.declared.parts.ArcPart.{ArcPart}
-use Rattle.um_statements.specs.Statements.{Statement, Title, Sense, Row, Column, Entry, Side, Range, Bound, Set, Member, Arc}
+use Rattle.um_statements.specs.Statements.{Statement, Title, Sense, RowTold, Column, EntryTold, Side, Range, Bound, Set, MemberTold, ArcTold}
 use Rattle.um_statements.specs.Said.{Said, RowSaid, ColumnSaid, row_place, column_place}
-use Rattle.um_statements.specs.CallRules.{is_n, is_zero, has_kept_arc, fault_of, rules_of, with_statement, with_bound, change_columns, change_last, option_list, objective_place, arc_columns}
+use Rattle.um_statements.specs.CallRules.{is_n, is_zero, has_kept_arc, fault_of, rules_of, with_statement, with_bound, change_columns, change_last, option_list, objective_place, said_arc_columns}
 use Rattle.um_statements.specs.WellSaid.{HasNumbers, IsSaid, keeps_arc}
 use Rattle.um_statements.proofs.CollectedSteps.{none_broken}
 use Rattle.um_statements.proofs.PushedLists.{count_push, count_kept, length_last}
@@ -23,7 +23,7 @@ use Rattle.um_maker.proofs.ObjectivePlaces.{position_push}
 
 -- how many rows that are not N a statement adds
 abbrev pub sided_more : Statement → ℕ
-sided_more (Row kind name) = cond (not (is_n kind)) 1 0
+sided_more (RowTold kind name) = cond (not (is_n kind)) 1 0
 sided_more other = 0
 
 abbrev is_sided : RowSaid → Bool
@@ -34,7 +34,7 @@ nothing_more n = omega arith
 
 sided_next : (said : Said) (s : Statement) → HasNumbers s → count_by is_sided (with_statement s said).rows ≡ count_by is_sided said.rows + sided_more s
 unfolding with_statement
-sided_next said (Row kind name) numbers = count_push is_sided said.rows _
+sided_next said (RowTold kind name) numbers = count_push is_sided said.rows _
 sided_next said (Side row value) numbers =
     let change : RowSaid → RowSaid = λ r. record r { side = option_or r.side (Some value) } in
     count_kept is_sided _ (λ r. ap (λ (k : RowKind). not (is_n k)) (kind_kept row change (λ r. refl) (λ r. refl) (side_fine value numbers) r)) said.rows ∙ nothing_more _
@@ -44,19 +44,19 @@ sided_next said (Range row value) numbers =
 sided_next said (Title name) numbers = nothing_more _
 sided_next said (Sense maximise) numbers = nothing_more _
 sided_next said (Column name in_block) numbers = nothing_more _
-sided_next said (Entry row value) numbers = nothing_more _
+sided_next said (EntryTold row value) numbers = nothing_more _
 sided_next said (Bound kind column value) numbers = nothing_more _
 sided_next said (Set kind name reference) numbers = nothing_more _
-sided_next said (Member column weight) numbers = nothing_more _
-sided_next said (Arc row column value) numbers = nothing_more _
+sided_next said (MemberTold column weight) numbers = nothing_more _
+sided_next said (ArcTold row column value) numbers = nothing_more _
 
 -- how many columns have an arc that had none before
 abbrev pub arcs_more : Said → Statement → ℕ
-arcs_more said (Arc row column value) = option_map_or (λ j. cond (not (is_zero value) && not (has_kept_arc said j)) 1 0) (column_place said.columns column) 0
+arcs_more said (ArcTold row column value) = option_map_or (λ j. cond (not (is_zero value) && not (has_kept_arc said j)) 1 0) (column_place said.columns column) 0
 arcs_more said other = 0
 
 -- as many columns, with the same arcs
-same_length : (said : Said) (n : ℕ) → n ≡ length said.columns → count_by (keeps_arc said.arcs) (range_with_len 0 n) ≡ arc_columns said + 0
+same_length : (said : Said) (n : ℕ) → n ≡ length said.columns → count_by (keeps_arc said.arcs) (range_with_len 0 n) ≡ said_arc_columns said + 0
 same_length said n same = ap (λ m. count_by (keeps_arc said.arcs) (range_with_len 0 m)) same ∙ nothing_more _
 
 arc_next : (arcs : List ArcPart) (row column : Option ℕ) (columns : ℕ) (value : Decimal) → not (is_some row) ≡ false → not (is_some column) ≡ false → ((j : ℕ) → column ≡ Some j → j < columns)
@@ -66,24 +66,24 @@ arc_next arcs None column columns value known known2 within = absurd (true≢fal
 arc_next arcs (Some i) None columns value known known2 within = absurd (true≢false known2)
 arc_next arcs (Some i) (Some j) columns value known known2 within = arcs_counted arcs (record { row = i; column = j; value = value }) columns (within j refl)
 
-arcs_next : (said : Said) (s : Statement) → IsSaid said → fault_of said s ≡ None → arc_columns (with_statement s said) ≡ arc_columns said + arcs_more said s
+arcs_next : (said : Said) (s : Statement) → IsSaid said → fault_of said s ≡ None → said_arc_columns (with_statement s said) ≡ said_arc_columns said + arcs_more said s
 unfolding with_statement rules_of
-arcs_next said (Arc row column value) is fine =
-    let rules = none_broken (rules_of said (Arc row column value)) fine in
+arcs_next said (ArcTold row column value) is fine =
+    let rules = none_broken (rules_of said (ArcTold row column value)) fine in
     arc_next said.arcs (row_place said.rows row) (column_place said.columns column) (length said.columns) value rules.0 rules.1.0 (λ j at. place_within (λ (c : ColumnSaid). c.name) said.columns column j at)
 arcs_next said (Column name in_block) is fine = same_arc_columns (objective_place said.rows) said.columns _ said.arcs is.arc_part.each ∙ nothing_more _
-arcs_next said (Entry row value) is fine =
+arcs_next said (EntryTold row value) is fine =
     let change : ColumnSaid → ColumnSaid = with_entry (row_place said.rows row) value in
     same_length said (length (change_last change said.columns)) (length_last change said.columns)
 arcs_next said (Bound kind column value) is fine =
     same_length said (length (change_columns column (λ c. record c { ends = with_bound kind value c.ends }) said.columns)) (bounded_count kind column value said.columns)
 arcs_next said (Title name) is fine = nothing_more _
 arcs_next said (Sense maximise) is fine = nothing_more _
-arcs_next said (Row kind name) is fine = nothing_more _
+arcs_next said (RowTold kind name) is fine = nothing_more _
 arcs_next said (Side row value) is fine = nothing_more _
 arcs_next said (Range row value) is fine = nothing_more _
 arcs_next said (Set kind name reference) is fine = nothing_more _
-arcs_next said (Member column weight) is fine = nothing_more _
+arcs_next said (MemberTold column weight) is fine = nothing_more _
 
 pub one_more : (n : ℕ) (b : Bool) → b ≡ true → n + 1 ≡ n + cond b 1 0
 one_more n b is = rw is refl
@@ -93,7 +93,7 @@ no_more n b is = rw is (nothing_more n)
 
 -- the place of the first N row, where a statement gives it
 abbrev pub first_more : Said → Statement → Option ℕ
-first_more said (Row kind name) = if is_n kind then Some (length said.rows) else None
+first_more said (RowTold kind name) = if is_n kind then Some (length said.rows) else None
 first_more said other = None
 
 pub same_place : (o : Option ℕ) → o ≡ option_or o None
@@ -102,7 +102,7 @@ same_place (Some i) = refl
 
 first_next : (said : Said) (s : Statement) → HasNumbers s → objective_place (with_statement s said).rows ≡ option_or (objective_place said.rows) (first_more said s)
 unfolding with_statement
-first_next said (Row kind name) numbers = position_push (λ (r : RowSaid). is_n r.kind) said.rows (record { name = name; kind = kind; side = None; range = None })
+first_next said (RowTold kind name) numbers = position_push (λ (r : RowSaid). is_n r.kind) said.rows (record { name = name; kind = kind; side = None; range = None })
 first_next said (Side row value) numbers =
     let change : RowSaid → RowSaid = λ r. record r { side = option_or r.side (Some value) } in
     changed_objective row change (λ r. refl) (λ r. refl) (side_fine value numbers) said.rows ∙ same_place _
@@ -112,11 +112,11 @@ first_next said (Range row value) numbers =
 first_next said (Title name) numbers = same_place _
 first_next said (Sense maximise) numbers = same_place _
 first_next said (Column name in_block) numbers = same_place _
-first_next said (Entry row value) numbers = same_place _
+first_next said (EntryTold row value) numbers = same_place _
 first_next said (Bound kind column value) numbers = same_place _
 first_next said (Set kind name reference) numbers = same_place _
-first_next said (Member column weight) numbers = same_place _
-first_next said (Arc row column value) numbers = same_place _
+first_next said (MemberTold column weight) numbers = same_place _
+first_next said (ArcTold row column value) numbers = same_place _
 
 pub no_first : (o : Option ℕ) (n : ℕ) (b : Bool) → not b ≡ true → o ≡ option_or o (if b then Some n else None)
 no_first o n true sided = absurd (true≢false (sym sided))

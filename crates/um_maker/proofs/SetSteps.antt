@@ -8,7 +8,7 @@ use Rattle.um_num.specs.declared.decimal.Decimal.{Decimal}
 use Rattle.um_model.specs.declared.deck.SetKind.{SetKind}
 use Rattle.um_statements.specs.declared.fault.Fault.TheVariants.{UnknownRow, UnknownColumn, TwiceSet, TwiceMember, TooMany}
 use Rattle.um_statements.specs.declared.parts.MemberPart.{MemberPart}
-use Rattle.um_statements.specs.Statements.{Name, Set, Member}
+use Rattle.um_statements.specs.Statements.{Name, Set, MemberTold}
 use Rattle.um_statements.specs.Said.{Said, SetSaid, row_place, column_place}
 use Rattle.um_statements.specs.Scaled.{times_ten}
 use Rattle.um_statements.specs.CallRules.{first_fault, fault_of, rules_of, has_row, has_set, last_has, with_statement}
@@ -69,7 +69,7 @@ set_pushed said kind name reference items pushed part same bare new = rw (new, m
 
 -- ---- a member
 
-pub unknown_column : (said : Said) (column : Name) (weight : Option Decimal) → column_place said.columns column ≡ None → fault_of said (Member column weight) ≡ Some UnknownColumn
+pub unknown_column : (said : Said) (column : Name) (weight : Option Decimal) → column_place said.columns column ≡ None → fault_of said (MemberTold column weight) ≡ Some UnknownColumn
 unfolding rules_of
 unknown_column said column weight none = rw none
 
@@ -77,13 +77,13 @@ abbrev has_at : ℕ → List SetSaid → Bool
 has_at place sets = last_has (λ (s : SetSaid). list_any (λ (m : MemberPart). nat_eq place m.column) s.members) sets
 
 pub twice_member : (said : Said) (column : Name) (weight : Option Decimal) (place : ℕ) → column_place said.columns column ≡ Some place → has_at place said.sets ≡ true
-    → fault_of said (Member column weight) ≡ Some TwiceMember
+    → fault_of said (MemberTold column weight) ≡ Some TwiceMember
 unfolding rules_of
 twice_member said column weight place at twice = rw (at, twice)
 
 -- the rules of a new member of a known column are those on its weight
 pub new_member : (said : Said) (column : Name) (weight : Option Decimal) (place : ℕ) → column_place said.columns column ≡ Some place → has_at place said.sets ≡ false
-    → fault_of said (Member column weight) ≡ first_fault (weight_rules weight)
+    → fault_of said (MemberTold column weight) ≡ first_fault (weight_rules weight)
 unfolding rules_of
 new_member said column weight place at new = rw (at, new) refl
 
@@ -91,7 +91,7 @@ member_pushed : (said : Said) (column : Name) (weight : Option Decimal) (place :
     → column_place said.columns column ≡ Some place
     → slice_get (map (λ (e : Name × SetPart). e.1) items) (length items - 1) ≡ Some part
     → changed.kind ≡ part.kind → changed.reference ≡ part.reference → changed.members.items ≡ part.members.items ++ record { column = place; weight = option_map (λ v. times_ten v 6) weight } ∷ []
-    → record said { sets = map set_said (with_item items (length items - 1) changed) } ≡ with_statement (Member column weight) said
+    → record said { sets = map set_said (with_item items (length items - 1) changed) } ≡ with_statement (MemberTold column weight) said
 unfolding with_statement
 member_pushed said column weight place items part changed same at last kind reference members =
     rw (at, same) (ap (λ sets. record said { sets = sets }) (last_changed set_said _ items part changed last (λ name. rw (kind, reference, members) refl)))
@@ -101,7 +101,7 @@ pub member_told : (said : Said) (column : Name) (weight : Option Decimal) (place
     → column_place said.columns column ≡ Some place → k ≡ length items
     → slice_get (map (λ (e : Name × SetPart). e.1) items) (k - 1) ≡ Some part
     → changed.kind ≡ part.kind → changed.reference ≡ part.reference → changed.members.items ≡ part.members.items ++ record { column = place; weight = option_map (λ v. times_ten v 6) weight } ∷ []
-    → record said { sets = map set_said (with_item items (k - 1) changed) } ≡ with_statement (Member column weight) said
+    → record said { sets = map set_said (with_item items (k - 1) changed) } ≡ with_statement (MemberTold column weight) said
 member_told said column weight place items k part changed same at long last kind reference members =
     rw long (member_pushed said column weight place items part changed same at (rw (← long) last) kind reference members)
 

@@ -8,7 +8,7 @@ use Rattle.um_statements.specs.declared.parts.BoundKind.{BoundKind}
 use Rattle.um_statements.specs.declared.parts.ArcPart.{ArcPart}
 use Rattle.um_statements.specs.Scaled.{is_whole_at, is_within_at}
 use Rattle.um_statements.specs.Said.{Said, RowSaid}
-use Rattle.um_statements.specs.CallRules.{Rule, is_n, is_at, is_zero, is_large_bound, objective_place, has_kept_arc, arc_columns as columns_with_arcs}
+use Rattle.um_statements.specs.CallRules.{Rule, is_n, is_at, is_zero, is_large_bound, objective_place, has_kept_arc, said_arc_columns}
 use Rattle.um_statements.specs.WellSaid.{IsSaid}
 use Rattle.um_model.specs.declared.limits.TheConstants.{MOST_ARC_COLUMNS, MOST_WEIGHT}
 
@@ -18,7 +18,7 @@ pub record IsMaker (said : Said) (objective : Option ℕ) (sided_rows arc_column
   pub well : IsSaid said
   pub first_n : objective ≡ objective_place said.rows
   pub sided : sided_rows ≡ count_by (λ (r : RowSaid). not (is_n r.kind)) said.rows
-  pub curved : arc_columns ≡ columns_with_arcs said
+  pub curved : arc_columns ≡ said_arc_columns said
 
 -- the rules on a bound's value
 abbrev pub value_rules : BoundKind → Option Decimal → List Rule
@@ -45,4 +45,4 @@ abbrev pub arc_rules : Said → ℕ → ℕ → Decimal → List Rule
 arc_rules said row column value =
     (not (is_at (objective_place said.rows) row), ArcRow)
     ∷ (has_arc said.arcs row column, TwiceEntry)
-    ∷ (adds_column said column value && nat_le MOST_ARC_COLUMNS (columns_with_arcs said), TooMany) ∷ []
+    ∷ (adds_column said column value && nat_le MOST_ARC_COLUMNS (said_arc_columns said), TooMany) ∷ []

@@ -56,7 +56,7 @@ impl DeckMaker {
     ghost use Rattle.um_statements.specs.CallRules.{has_row, is_full_of_rows, with_statement};
     ghost use Rattle.um_statements.specs.Tells.{Tells};
     ghost use Rattle.um_statements.specs.Said.{RowSaid, row_place, nothing_said};
-    ghost use Rattle.um_statements.specs.Statements.{Title, Sense, Row, Side, Range};
+    ghost use Rattle.um_statements.specs.Statements.{Title, Sense, RowTold, Side, Range};
     ghost use Rattle.um_statements.specs.WellSaid.{IsNumber};
 
     /// A maker that was told nothing: its deck minimises, and has no name. Takes no memory.
@@ -109,7 +109,7 @@ impl DeckMaker {
     /// Adds a row. Faults: `TwiceRow`; `TooMany` behind 1,024 rows, or 512 that are not N; `Memory`.
     #[tactic(auto, using(crate::proofs::RowSteps::twice_row, crate::proofs::RowSteps::many_rows, crate::proofs::RowSteps::row_allowed))]
     pub fn row(&mut self, kind: RowKind, name: &[u8]) -> Result<(), Fault>
-        ensures { Tells (Row kind name.now) self.old result self.new }
+        ensures { Tells (RowTold kind name.now) self.old result self.new }
     {
         if self.has_row(name) {
             return Err(Fault::TwiceRow);
@@ -124,7 +124,7 @@ impl DeckMaker {
     fn push_row(&mut self, kind: RowKind, name: &[u8]) -> Result<(), Memory>
         requires new { has_row self.old name.now ≡ false }
         requires room { is_full_of_rows self.old kind ≡ false }
-        ensures ok { OnOk result (self.new ≡ with_statement (Row kind name.now) self.old) }
+        ensures ok { OnOk result (self.new ≡ with_statement (RowTold kind name.now) self.old) }
         ensures err { OnErr result (self.new ≡ self.old) }
     {
         let part = RowPart {

@@ -6,7 +6,7 @@ use Rattle.std.specs.Option.{option_map_or, option_or}
 use Rattle.um_model.specs.Values.{DeckValue}
 use Rattle.um_statements.specs.declared.fault.Fault.{Fault}
 use Rattle.um_statements.specs.declared.fault.Fault.TheVariants.{Memory, NoEnd, TooLong}
-use Rattle.um_statements.specs.Statements.{Statement, Arc, Bound, Column, Entry, Member, Range, Row, Sense, Set, Side, Title}
+use Rattle.um_statements.specs.Statements.{Statement, ArcTold, Bound, Column, EntryTold, MemberTold, Range, RowTold, Sense, Set, Side, Title}
 use Rattle.um_statements.specs.Said.{Said, RowSaid, ColumnSaid, SetSaid, nothing_said}
 use Rattle.um_statements.specs.CallRules.{Rule, fault_of, faults_in, rules_of, with_statement}
 use Rattle.um_statements.specs.Tells.{Says, says_fault, statements}
@@ -95,15 +95,15 @@ statement_fine : (said : Said) (s : Statement) → FineRules (rules_of said s)
 unfolding rules_of
 statement_fine said (Title name) = tt
 statement_fine said (Sense maximise) = tt
-statement_fine said (Row kind name) = (λ same. cc, (λ same. cc, tt))
+statement_fine said (RowTold kind name) = (λ same. cc, (λ same. cc, tt))
 statement_fine said (Column name in_block) = (λ same. cc, (λ same. cc, tt))
-statement_fine said (Entry row value) = (λ same. cc, (λ same. cc, tt))
+statement_fine said (EntryTold row value) = (λ same. cc, (λ same. cc, tt))
 statement_fine said (Side row value) = (λ same. cc, (λ same. cc, tt))
 statement_fine said (Range row value) = (λ same. cc, (λ same. cc, tt))
 statement_fine said (Bound kind column value) = (λ same. cc, (λ same. cc, (λ same. cc, (λ same. cc, tt))))
 statement_fine said (Set kind name reference) = (λ same. cc, (λ same. cc, (λ same. cc, tt)))
-statement_fine said (Member column weight) = (λ same. cc, (λ same. cc, (λ same. cc, (λ same. cc, tt))))
-statement_fine said (Arc row column value) = (λ same. cc, (λ same. cc, (λ same. cc, (λ same. cc, (λ same. cc, tt)))))
+statement_fine said (MemberTold column weight) = (λ same. cc, (λ same. cc, (λ same. cc, (λ same. cc, tt))))
+statement_fine said (ArcTold row column value) = (λ same. cc, (λ same. cc, (λ same. cc, (λ same. cc, (λ same. cc, tt)))))
 
 or_fine : (o p : Option Fault) → ((fault : Fault) → o ≡ Some fault → fault ≢ Memory) → ((fault : Fault) → p ≡ Some fault → fault ≢ Memory) → (fault : Fault) → option_or o p ≡ Some fault → fault ≢ Memory
 or_fine None p first second fault is = second fault is

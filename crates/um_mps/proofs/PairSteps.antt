@@ -4,7 +4,7 @@ use Rattle.std.proofs.lemmas.List.{get_or-drop}
 use Rattle.std.specs.Option.{option_or}
 use Rattle.um_num.specs.declared.decimal.Decimal.{Decimal}
 use Rattle.um_statements.specs.declared.fault.Fault.{Fault}
-use Rattle.um_statements.specs.Statements.{Name, Statement, Column, Entry}
+use Rattle.um_statements.specs.Statements.{Name, Statement, Column, EntryTold}
 use Rattle.um_statements.specs.Said.{Said, ColumnSaid}
 use Rattle.um_statements.specs.CallRules.{bare_ends, faults_in, with_statement, with_all}
 use Rattle.um_statements.specs.Tells.{Tells, TellsAll}
@@ -14,12 +14,12 @@ use Rattle.um_decktext.specs.Words.{Words}
 use Rattle.um_decktext.specs.Numbers.{number}
 use Rattle.um_decktext.specs.LinesSay.{pairs}
 
-entry_keeps : (row : Name) (value : Decimal) (said : Said) → length (with_statement (Entry row value) said).columns ≡ length said.columns
+entry_keeps : (row : Name) (value : Decimal) (said : Said) → length (with_statement (EntryTold row value) said).columns ≡ length said.columns
 unfolding with_statement
 entry_keeps row value said = length_last {X = ColumnSaid} _ said.columns
 
 -- another entry may be told behind one
-pub entry_may : (row : Name) (value : Decimal) (old : Said) (result : Result Unit Fault) (new : Said) → 0 < length old.columns → Tells (Entry row value) old result new
+pub entry_may : (row : Name) (value : Decimal) (old : Said) (result : Result Unit Fault) (new : Said) → 0 < length old.columns → Tells (EntryTold row value) old result new
     → OnOk result (0 < length new.columns)
 entry_may row value old (Ok done) new may told = omega (arith, ap (λ (s : Said). length s.columns) told.1, entry_keeps row value old)
 entry_may row value old (Err fault) new may told = tt

@@ -14,7 +14,7 @@ use Rattle.um_statements.specs.declared.fault.Fault.{Fault}
 use Rattle.um_statements.specs.declared.fault.Fault.TheVariants.{BadWords, Marker, Memory, UnknownKind}
 use Rattle.um_statements.specs.declared.parts.BoundKind.{BoundKind}
 use Rattle.um_statements.specs.declared.parts.RowKind.{RowKind}
-use Rattle.um_statements.specs.Statements.{Name, Statement, Arc, Bound, Column, Entry, Member, Range, Row, Sense, Set, Side, Title}
+use Rattle.um_statements.specs.Statements.{Name, Statement, ArcTold, Bound, Column, EntryTold, MemberTold, Range, RowTold, Sense, Set, Side, Title}
 use Rattle.um_statements.specs.CallRules.{Rule, first_fault}
 use Rattle.um_statements.specs.Tells.{Says, statements}
 use Rattle.um_statements.specs.WellSaid.{HasNumbers, IsNumber}
@@ -39,7 +39,7 @@ IsFine says = MatchResult says (All HasNumbers) NotMemory
 -- a statement that speaks of no ordered set
 abbrev pub NoSet : Statement → Type 0
 NoSet (Set kind name reference) = ⊥
-NoSet (Member column weight) = ⊥
+NoSet (MemberTold column weight) = ⊥
 NoSet other = Unit {0}
 
 abbrev pub Plain : Statement → Type 0
@@ -173,9 +173,9 @@ row_fine [] = λ same. cc
 row_fine (w ∷ []) = λ same. cc
 row_fine (w ∷ (name ∷ [])) = by (row_kind w)
   where
-    by : (o : Option RowKind) → IsPlain (kinds o (λ kind. Ok (Row kind name ∷ [])))
+    by : (o : Option RowKind) → IsPlain (kinds o (λ kind. Ok (RowTold kind name ∷ [])))
     by None = λ same. cc
-    by (Some kind) = one_fine (Row kind name) (tt, tt)
+    by (Some kind) = one_fine (RowTold kind name) (tt, tt)
 row_fine (w ∷ (name ∷ (v ∷ ws))) = λ same. cc
 
 begun_fine : (place : Place) (column : Name) → All Plain (begun place column)
@@ -191,7 +191,7 @@ column_fine place ws = by (is_marker ws) (bytes_eq (third_word ws) (if place.in_
     by : (marker right : Bool) → IsPlain (if marker then (if right then Ok [] else Err Marker) else entry_line place ws)
     by true true = All-nil Plain
     by true false = λ same. cc
-    by false right = told_fine Entry (λ row v n. (n, tt)) (begun place (first_word ws)) (begun_fine place (first_word ws)) (pairs (drop 1 ws)) (pairs_fine (drop 1 ws))
+    by false right = told_fine EntryTold (λ row v n. (n, tt)) (begun place (first_word ws)) (begun_fine place (first_word ws)) (pairs (drop 1 ws)) (pairs_fine (drop 1 ws))
 
 -- ---- BOUNDS
 
@@ -254,10 +254,10 @@ member_fine : (wants : Option Bool) (ws : Words) → IsFine (member_line wants w
 member_fine None ws = λ same. cc
 member_fine (Some true) [] = λ same. cc
 member_fine (Some true) (a ∷ []) = λ same. cc
-member_fine (Some true) (a ∷ (b ∷ [])) = step_fine (All HasNumbers) b _ (λ v n. All-cons HasNumbers (Member a (Some v)) [] (some_number v n) (All-nil HasNumbers))
+member_fine (Some true) (a ∷ (b ∷ [])) = step_fine (All HasNumbers) b _ (λ v n. All-cons HasNumbers (MemberTold a (Some v)) [] (some_number v n) (All-nil HasNumbers))
 member_fine (Some true) (a ∷ (b ∷ (c ∷ ws))) = λ same. cc
 member_fine (Some false) [] = λ same. cc
-member_fine (Some false) (a ∷ []) = All-cons HasNumbers (Member a None) [] no_number (All-nil HasNumbers)
+member_fine (Some false) (a ∷ []) = All-cons HasNumbers (MemberTold a None) [] no_number (All-nil HasNumbers)
 member_fine (Some false) (a ∷ (b ∷ ws)) = λ same. cc
 
 set_fine : (wants : Option Bool) (ws : Words) → IsFine (set_says wants ws)
@@ -274,8 +274,8 @@ arc_fine (a ∷ (b ∷ [])) = λ same. cc
 arc_fine (a ∷ (b ∷ (c ∷ []))) = λ same. cc
 arc_fine (a ∷ (b ∷ (c ∷ (d ∷ [])))) = by (bytes_eq a (codes "Q"))
   where
-    by : (known : Bool) → IsPlain (if known then then_step (number d) (λ v. Ok (Arc b c v ∷ [])) else Err UnknownKind)
-    by true = step_fine (All Plain) d _ (λ v n. one_fine (Arc b c v) (n, tt))
+    by : (known : Bool) → IsPlain (if known then then_step (number d) (λ v. Ok (ArcTold b c v ∷ [])) else Err UnknownKind)
+    by true = step_fine (All Plain) d _ (λ v n. one_fine (ArcTold b c v) (n, tt))
     by false = λ same. cc
 arc_fine (a ∷ (b ∷ (c ∷ (d ∷ (e ∷ ws))))) = λ same. cc
 

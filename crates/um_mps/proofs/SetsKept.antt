@@ -8,7 +8,7 @@ use Rattle.um_num.specs.Numbers.{then_step}
 use Rattle.um_model.specs.declared.deck.SetKind.{SetKind}
 use Rattle.um_statements.specs.declared.fault.Fault.{Fault}
 use Rattle.um_statements.specs.declared.fault.Fault.TheVariants.{BadWords, UnknownRow}
-use Rattle.um_statements.specs.Statements.{Name, Statement, Arc, Bound, Column, Entry, Member, Range, Row, Sense, Set, Side, Title}
+use Rattle.um_statements.specs.Statements.{Name, Statement, ArcTold, Bound, Column, EntryTold, MemberTold, Range, RowTold, Sense, Set, Side, Title}
 use Rattle.um_statements.specs.Said.{Said, SetSaid, row_place}
 use Rattle.um_statements.specs.CallRules.{change_last, fault_of, faults_in, rules_of, with_all, with_statement}
 use Rattle.um_statements.specs.Tells.{Says, says_fault, statements, wants_weight}
@@ -26,15 +26,15 @@ one_kept : (s : Statement) (said : Said) → NoSet s → (with_statement s said)
 unfolding with_statement
 one_kept (Title name) said none = refl
 one_kept (Sense maximise) said none = refl
-one_kept (Row kind name) said none = refl
+one_kept (RowTold kind name) said none = refl
 one_kept (Column name in_block) said none = refl
-one_kept (Entry row value) said none = refl
+one_kept (EntryTold row value) said none = refl
 one_kept (Side row value) said none = refl
 one_kept (Range row value) said none = refl
 one_kept (Bound kind column value) said none = refl
-one_kept (Arc row column value) said none = refl
+one_kept (ArcTold row column value) said none = refl
 one_kept (Set kind name reference) said none = absurd none
-one_kept (Member column weight) said none = absurd none
+one_kept (MemberTold column weight) said none = absurd none
 
 all_kept : (told : List Statement) (said : Said) → All Plain told → (with_all told said).sets ≡ said.sets
 all_kept [] said all = refl
@@ -85,11 +85,11 @@ same_last change same before [] = refl
 same_last change same before (s ∷ []) = ap (λ reference. Some (is_none reference)) (same s)
 same_last change same before (s ∷ (t ∷ sets)) = same_last change same (Some s) (t ∷ sets)
 
-member_put : (column : Name) (weight : Option Decimal) (said : Said) → wants_weight (with_statement (Member column weight) said) ≡ wants_weight said
+member_put : (column : Name) (weight : Option Decimal) (said : Said) → wants_weight (with_statement (MemberTold column weight) said) ≡ wants_weight said
 unfolding with_statement
 member_put column weight said = same_last _ (λ s. refl) None said.sets
 
-step_told : (said : Said) (column : Name) (r : Result Decimal Fault) → wants_weight (with_all (statements (then_step r (λ v. Ok (Member column (Some v) ∷ [])))) said) ≡ wants_weight said
+step_told : (said : Said) (column : Name) (r : Result Decimal Fault) → wants_weight (with_all (statements (then_step r (λ v. Ok (MemberTold column (Some v) ∷ [])))) said) ≡ wants_weight said
 step_told said column (Ok v) = member_put column (Some v) said
 step_told said column (Err fault) = refl
 

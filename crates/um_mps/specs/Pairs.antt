@@ -1,7 +1,7 @@
 -- Pairs of a row and a number, and what they say.
 use Rattle.std.specs.Prelude.{◌<◌, List, [], ◌∷◌, length}
 use Rattle.um_num.specs.declared.decimal.Decimal.{Decimal}
-use Rattle.um_statements.specs.Statements.{Name, Statement, Entry, Side, Range}
+use Rattle.um_statements.specs.Statements.{Name, Statement, EntryTold, Side, Range}
 use Rattle.um_statements.specs.Said.{Said}
 use Rattle.um_statements.specs.WellSaid.{IsNumber}
 use Rattle.um_mps.specs.declared.pairs.Pairs.{Pairs}
@@ -20,7 +20,7 @@ AreNumbers (Two p q) = IsNumber p.value × IsNumber q.value
 
 -- what a pair says of a deck
 abbrev pub statement : Part → Name → Decimal → Statement
-statement part.Entry = Entry
+statement part.Entry = EntryTold
 statement part.Side = Side
 statement part.Range = Range
 

@@ -6,7 +6,7 @@ ghost use Rattle.std.specs.Str.{bytes_eq};
 ghost use Rattle.um_statements.specs.Tells.{TellsAll};
 ghost use Rattle.um_decktext.specs.LineWords.{is_marker, opens};
 ghost use Rattle.um_decktext.specs.LinesSay.{begun, column_line, entry_line, marker_line};
-ghost use Rattle.um_statements.specs.Statements.{Entry};
+ghost use Rattle.um_statements.specs.Statements.{EntryTold};
 ghost use Rattle.um_mps.specs.Pairs.{AreNumbers, pairs_of};
 ghost use Rattle.um_mps.specs.Behind.{behind_column, HasItsColumn};
 
@@ -67,7 +67,7 @@ fn tell_column(
 ) -> Result<(), Fault>
     requires begun { HasItsColumn place.now maker.old }
     requires numbers { AreNumbers pairs.now }
-    ensures told { TellsAll (Ok (begun place.now column.now ++ map (λ p. Entry p.0 p.1) (pairs_of pairs.now))) maker.old result maker.new }
+    ensures told { TellsAll (Ok (begun place.now column.now ++ map (λ p. EntryTold p.0 p.1) (pairs_of pairs.now))) maker.old result maker.new }
     ensures some { OnOk result (0 < length maker.new.columns) }
 {
     match begin(maker, place, column) {

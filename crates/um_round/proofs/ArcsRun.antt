@@ -11,9 +11,9 @@ use Rattle.um_model.specs.Values.{DeckValue}
 use Rattle.um_model.specs.WellFormed.{IsDeck, IsArc, has_arc}
 use Rattle.um_model.specs.declared.deck.Arc.{Arc}
 use Rattle.um_statements.specs.declared.parts.ArcPart.{ArcPart}
-use Rattle.um_statements.specs.Statements.{Arc as ArcTold}
+use Rattle.um_statements.specs.Statements.{ArcTold}
 use Rattle.um_statements.specs.Said.{Said, RowSaid, row_place}
-use Rattle.um_statements.specs.CallRules.{rules_of, with_statement, is_at, is_n, is_zero, objective_place, has_kept_arc, arc_columns as kept_columns}
+use Rattle.um_statements.specs.CallRules.{rules_of, with_statement, is_at, is_n, is_zero, objective_place, has_kept_arc, said_arc_columns}
 use Rattle.um_statements.proofs.ListFacts.{count_placed}
 use Rattle.um_statements.proofs.PushedLists.{count_one_more}
 use Rattle.um_make.specs.NormalLines.{in_sense, column_name}
@@ -79,24 +79,24 @@ module _ (d : DeckValue) (deck : IsDeck d) where
       by true n rest e = rw n refl
       by false n rest e = rw n (rest e)
 
-  not_full : (front : List Arc) (a : Arc) (back : List Arc) → front ++ a ∷ back ≡ d.arcs → a.column < length d.columns → has_kept_arc (at (known front)) a.column ≡ false → kept_columns (at (known front)) < 64
+  not_full : (front : List Arc) (a : Arc) (back : List Arc) → front ++ a ∷ back ≡ d.arcs → a.column < length d.columns → has_kept_arc (at (known front)) a.column ≡ false → said_arc_columns (at (known front)) < 64
   not_full front a back all within fresh =
       let in_deck : (j : ℕ) → has_kept_arc (at (known front)) j ≡ true → has_arc d.arcs j ≡ true = λ j e.
       sym (ap (λ (xs : List Arc). has_arc xs j) all) ∙ list_any-append (λ (x : Arc). x.column == j) front (a ∷ back) ∙ ap (λ b. b || has_arc (a ∷ back) j) (kept_is front j e) in
       let here : has_arc d.arcs a.column ≡ true = sym (ap (λ (xs : List Arc). has_arc xs a.column) all) ∙ list_any-append (λ (x : Arc). x.column == a.column) front (a ∷ back) ∙ or_right _ _ (ap (λ b. b || has_arc back a.column) (eq-eqb a.column a.column refl)) in
       let fewer = fewer_pass (has_kept_arc (at (known front))) (has_arc d.arcs) in_deck a.column (length d.columns) within fresh here in
       let most = deck.arc_column_count in
-      let kept : kept_columns (at (known front)) ≡ count_by (has_kept_arc (at (known front))) (range_with_len 0 (length d.columns)) = ap (λ n. count_by (has_kept_arc (at (known front))) (range_with_len 0 n)) (length-map d.columns (column_known d)) in
+      let kept : said_arc_columns (at (known front)) ≡ count_by (has_kept_arc (at (known front))) (range_with_len 0 (length d.columns)) = ap (λ n. count_by (has_kept_arc (at (known front))) (range_with_len 0 n)) (length-map d.columns (column_known d)) in
       let placed = count_placed (has_arc d.arcs) d.columns in
       omega (arith, fewer, most, kept, placed)
 
   full_rule : (nothing : Bool) (front : List Arc) (a : Arc) (back : List Arc) → front ++ a ∷ back ≡ d.arcs → a.column < length d.columns
-      → (not nothing && not (has_kept_arc (at (known front)) a.column) && nat_le 64 (kept_columns (at (known front)))) ≡ false
+      → (not nothing && not (has_kept_arc (at (known front)) a.column) && nat_le 64 (said_arc_columns (at (known front)))) ≡ false
   full_rule nothing front a back all within = by (has_kept_arc (at (known front)) a.column) refl
     where
-      by : (b : Bool) → has_kept_arc (at (known front)) a.column ≡ b → (not nothing && not (has_kept_arc (at (known front)) a.column) && nat_le 64 (kept_columns (at (known front)))) ≡ false
-      by true e = rw e (and_left (not nothing && false) (nat_le 64 (kept_columns (at (known front)))) (and_right (not nothing) false refl))
-      by false e = and_right _ _ (lt-leb 64 (kept_columns (at (known front))) (not_full front a back all within e))
+      by : (b : Bool) → has_kept_arc (at (known front)) a.column ≡ b → (not nothing && not (has_kept_arc (at (known front)) a.column) && nat_le 64 (said_arc_columns (at (known front)))) ≡ false
+      by true e = rw e (and_left (not nothing && false) (nat_le 64 (said_arc_columns (at (known front)))) (and_right (not nothing) false refl))
+      by false e = and_right _ _ (lt-leb 64 (said_arc_columns (at (known front))) (not_full front a back all within e))
 
   none_twice : (front : List Arc) (j : ℕ) → Each (λ (x : Arc). x.column ≢ j) front → list_any (λ (x : ArcPart). is_at (Some 0) x.row && is_at (Some j) x.column) (known front) ≡ false
   none_twice [] j h = refl

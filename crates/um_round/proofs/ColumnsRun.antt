@@ -10,12 +10,12 @@ use Rattle.std.proofs.lemmas.List.Folds.{list_any-append}
 use Rattle.um_model.specs.Values.{DeckValue, ColumnValue}
 use Rattle.um_model.specs.WellFormed.{IsDeck, IsColumn, IsEntry}
 use Rattle.um_model.specs.declared.deck.Row.{Row}
-use Rattle.um_model.specs.declared.deck.Entry.{Entry as DeckEntry}
+use Rattle.um_model.specs.declared.deck.Entry.{Entry}
 use Rattle.um_model.specs.declared.deck.Kind.{Kind}
 use Rattle.um_model.specs.declared.deck.Kind.TheVariants.{Continuous, Integer, Semi}
 use Rattle.um_statements.specs.declared.parts.EntryPart.{EntryPart}
 use Rattle.um_statements.specs.declared.parts.Ends.{Ends}
-use Rattle.um_statements.specs.Statements.{Name, Statement, Column, Entry}
+use Rattle.um_statements.specs.Statements.{Name, Statement, Column, EntryTold}
 use Rattle.um_statements.specs.Said.{Said, RowSaid, ColumnSaid, row_place}
 use Rattle.um_statements.specs.CallRules.{rules_of, with_statement, holds_row, last_has, change_last, bare_ends}
 use Rattle.um_make.specs.NormalLines.{Number, in_sense, is_zero_number, or_one, cost_numbers, entry_number, numbers_of, row_name}
@@ -55,7 +55,7 @@ module _ (title : Name) (maximise : Bool) (rows : List RowSaid) where
       → Runs (state (done ++ column_as name ends got ∷ [])) (entry_told n) (state (done ++ column_as name ends (got ++ part place n ∷ []) ∷ []))
   unfolding rules_of with_statement
   entry_run done name ends got n place is fresh =
-      run_one (state (done ++ column_as name ends got ∷ [])) (Entry n.0 (written n.1 n.2)) (state (done ++ column_as name ends (got ++ part place n ∷ []) ∷ []))
+      run_one (state (done ++ column_as name ends got ∷ [])) (EntryTold n.0 (written n.1 n.2)) (state (done ++ column_as name ends (got ++ part place n ∷ []) ∷ []))
       (rw (is, last_has_push (λ (c : ColumnSaid). holds_row place c.entries) done (column_as name ends got), fresh) refl)
       (ap state (rw is (change_last_push _ done (column_as name ends got))))
 
@@ -177,22 +177,22 @@ still_below : (got : List EntryPart) (k m : ℕ) → Each (λ (g : EntryPart). g
 still_below [] k m below h = tt
 still_below (g ∷ got) k m below h = let low = below.0 in (omega (arith, low, h), still_below got k m below.1 h)
 
-abbrev RisesFrom : ℕ → List DeckEntry → Type 0
+abbrev RisesFrom : ℕ → List Entry → Type 0
 RisesFrom k [] = ⊤
 RisesFrom k (e ∷ es) = (k ≤ suc e.row) × RisesFrom (suc (suc e.row)) es
 
-rises : (k : ℕ) (e : DeckEntry) (es : List DeckEntry) → k ≤ suc e.row → AllPairs (λ (a : DeckEntry) (b : DeckEntry). a.row < b.row) (e ∷ es) → RisesFrom k (e ∷ es)
+rises : (k : ℕ) (e : Entry) (es : List Entry) → k ≤ suc e.row → AllPairs (λ (a : Entry) (b : Entry). a.row < b.row) (e ∷ es) → RisesFrom k (e ∷ es)
 rises k e [] h p = (h, tt)
 rises k e (x ∷ es) h p =
     let next : e.row < x.row = p 0 1 e (omega arith) (omega arith) in
     (h, rises (suc (suc e.row)) x es (omega (arith, next)) (λ i j y a b. p (suc i) (suc j) y (omega (arith, a)) (omega (arith, b))))
 
-rises_all : (es : List DeckEntry) → AllPairs (λ (a : DeckEntry) (b : DeckEntry). a.row < b.row) es → RisesFrom 1 es
+rises_all : (es : List Entry) → AllPairs (λ (a : Entry) (b : Entry). a.row < b.row) es → RisesFrom 1 es
 rises_all [] p = tt
 rises_all (e ∷ es) p = rises 1 e es (omega arith) p
 
 module _ (d : DeckValue) (apart : Apart (λ n. n) (d.objective_name ∷ map (λ (r : Row). r.name) d.rows)) where
-  come_entries : (es : List DeckEntry) (got : List EntryPart) (k : ℕ) → Each (λ (g : EntryPart). g.row < k) got → RisesFrom k es → Each (IsEntry (length d.rows)) es → CanCome d.name d.maximise (bare_rows d) got (map (entry_number d.rows) es)
+  come_entries : (es : List Entry) (got : List EntryPart) (k : ℕ) → Each (λ (g : EntryPart). g.row < k) got → RisesFrom k es → Each (IsEntry (length d.rows)) es → CanCome d.name d.maximise (bare_rows d) got (map (entry_number d.rows) es)
   come_entries [] got k below rise within = tt
   come_entries (e ∷ es) got k below rise within =
       let n = entry_number d.rows e in
@@ -205,7 +205,7 @@ module _ (d : DeckValue) (apart : Apart (λ n. n) (d.objective_name ∷ map (λ 
   come_numbers : (c : ColumnValue) → IsColumn (length d.rows) c → CanCome d.name d.maximise (bare_rows d) [] (numbers_of d c)
   come_numbers c is = by (is_zero_number (in_sense d.maximise c.cost)) c.entries (Each-from (IsEntry (length d.rows)) c.entries is.entries) (rises_all c.entries is.rise)
     where
-      by : (b : Bool) (es : List DeckEntry) → Each (IsEntry (length d.rows)) es → RisesFrom 1 es
+      by : (b : Bool) (es : List Entry) → Each (IsEntry (length d.rows)) es → RisesFrom 1 es
           → CanCome d.name d.maximise (bare_rows d) [] (or_one ((if b then [] else (d.objective_name, d.scale, in_sense d.maximise c.cost) ∷ []) ++ map (entry_number d.rows) es) (d.objective_name, 0, pos 0))
       by true [] within rise = (0, (objective_at d, refl), tt)
       by true (e ∷ es) within rise = come_entries (e ∷ es) [] 1 tt rise within

@@ -2,7 +2,7 @@
 use Rattle.std.proofs.Common.{◌≡◌, ℕ, Bool, true, false, List, [], ◌∷◌, map, length, option_map, unwrap_or, ℤ, pos, neg_ℤ, refl, sym, ap, ◌∙◌}
 use Rattle.um_model.specs.Values.{DeckValue, ColumnValue}
 use Rattle.um_model.specs.WellFormed.{IsDeck, IsColumn, IsEntry}
-use Rattle.um_model.specs.declared.deck.Entry.{Entry as DeckEntry}
+use Rattle.um_model.specs.declared.deck.Entry.{Entry}
 use Rattle.um_statements.specs.Scaled.{times_ten}
 use Rattle.um_statements.specs.Made.{entry_in, nothing, for_minimising, column_made, side_at, deck_value, row_scale as made_scale}
 use Rattle.um_make.specs.NormalLines.{in_sense, is_zero_number}
@@ -20,10 +20,10 @@ use Rattle.um_round.proofs.SetsBack.{sets_back}
 
 -- ---- a column
 
-cost_is : (k : ℕ) (z : ℤ) (es : List DeckEntry) → times_ten (unwrap_or (option_map (written k) (cost_told (is_zero_number z) z es)) nothing) k ≡ z
+cost_is : (k : ℕ) (z : ℤ) (es : List Entry) → times_ten (unwrap_or (option_map (written k) (cost_told (is_zero_number z) z es)) nothing) k ≡ z
 cost_is k z es = by (is_zero_number z) es refl
   where
-    by : (b : Bool) (es : List DeckEntry) → is_zero_number z ≡ b → times_ten (unwrap_or (option_map (written k) (cost_told b z es)) nothing) k ≡ z
+    by : (b : Bool) (es : List Entry) → is_zero_number z ≡ b → times_ten (unwrap_or (option_map (written k) (cost_told b z es)) nothing) k ≡ z
     by true [] e = scaled_back k (pos 0) ∙ sym (zero_is z e)
     by true (x ∷ es) e = ap (λ v. times_ten v k) (sym (written_zero k)) ∙ scaled_back k (pos 0) ∙ sym (zero_is z e)
     by false es e = scaled_back k z

@@ -9,7 +9,7 @@ use Rattle.um_num.specs.declared.decimal.Decimal.{Decimal}
 use Rattle.um_model.specs.Values.{DeckValue, ColumnValue}
 use Rattle.um_model.specs.WellFormed.{IsDeck, IsRow, IsColumn, IsEntry, IsArc, IsWithin, AtPlace}
 use Rattle.um_model.specs.declared.deck.Row.{Row}
-use Rattle.um_model.specs.declared.deck.Entry.{Entry as DeckEntry}
+use Rattle.um_model.specs.declared.deck.Entry.{Entry}
 use Rattle.um_model.specs.declared.deck.Arc.{Arc}
 use Rattle.um_statements.specs.Said.{Said, RowSaid}
 use Rattle.um_statements.specs.Scaled.{times_ten, is_within_at}
@@ -44,15 +44,15 @@ given_each {X = X} {Y = Y} P f (x ∷ xs) h = by (f x) h.0 (given_each P f xs h.
     by None a rest = rest
     by (Some y) a rest = (a y refl, rest)
 
-value_small : (most i : ℕ) (es : List DeckEntry) → Each (λ (e : DeckEntry). IsWithin most e.value) es → ForSome (option_map (λ (e : DeckEntry). e.value) (entry_at i es)) (IsWithin most)
+value_small : (most i : ℕ) (es : List Entry) → Each (λ (e : Entry). IsWithin most e.value) es → ForSome (option_map (λ (e : Entry). e.value) (entry_at i es)) (IsWithin most)
 value_small most i [] h = λ x e. cc
 value_small most i (e ∷ es) h = by (nat_eq e.row i) (value_small most i es h.1)
   where
-    by : (t : Bool) → ForSome (option_map (λ (e : DeckEntry). e.value) (entry_at i es)) (IsWithin most) → ForSome (option_map (λ (e : DeckEntry). e.value) (cond t (Some e) (entry_at i es))) (IsWithin most)
+    by : (t : Bool) → ForSome (option_map (λ (e : Entry). e.value) (entry_at i es)) (IsWithin most) → ForSome (option_map (λ (e : Entry). e.value) (cond t (Some e) (entry_at i es))) (IsWithin most)
     by true rest = λ x same. let is : e.value ≡ x = cc in subst (IsWithin most) is h.0
     by false rest = rest
 
-cost_small : (most : ℕ) (b : Bool) (z : ℤ) (es : List DeckEntry) → IsWithin most z → ForSome (cost_told b z es) (IsWithin most)
+cost_small : (most : ℕ) (b : Bool) (z : ℤ) (es : List Entry) → IsWithin most z → ForSome (cost_told b z es) (IsWithin most)
 cost_small most true z [] h x same = let is : pos 0 ≡ x = cc in subst (IsWithin most) is (omega arith)
 cost_small most true z (e ∷ es) h x same = cc
 cost_small most false z es h x same = let is : z ≡ x = cc in subst (IsWithin most) is h
@@ -75,13 +75,13 @@ module _ (d : DeckValue) (deck : IsDeck d) (in_objective : HasObjectiveArcs d) w
   columns_each = Each-from (IsColumn (length d.rows)) d.columns deck.columns
 
   values_small : (i : ℕ) → Each (IsWithin (2 ^ 31)) (values d deck in_objective i)
-  values_small i = given_each (IsWithin (2 ^ 31)) (λ (c : ColumnValue). option_map (λ (e : DeckEntry). e.value) (entry_at i c.entries)) d.columns (by d.columns columns_each)
+  values_small i = given_each (IsWithin (2 ^ 31)) (λ (c : ColumnValue). option_map (λ (e : Entry). e.value) (entry_at i c.entries)) d.columns (by d.columns columns_each)
     where
-      sizes : (es : List DeckEntry) → Each (IsEntry (length d.rows)) es → Each (λ (e : DeckEntry). IsWithin (2 ^ 31) e.value) es
+      sizes : (es : List Entry) → Each (IsEntry (length d.rows)) es → Each (λ (e : Entry). IsWithin (2 ^ 31) e.value) es
       sizes [] h = tt
       sizes (e ∷ es) h = (h.0.size, sizes es h.1)
 
-      by : (cs : List ColumnValue) → Each (IsColumn (length d.rows)) cs → Each (λ (c : ColumnValue). ForSome (option_map (λ (e : DeckEntry). e.value) (entry_at i c.entries)) (IsWithin (2 ^ 31))) cs
+      by : (cs : List ColumnValue) → Each (IsColumn (length d.rows)) cs → Each (λ (c : ColumnValue). ForSome (option_map (λ (e : Entry). e.value) (entry_at i c.entries)) (IsWithin (2 ^ 31))) cs
       by [] h = tt
       by (c ∷ cs) h = (value_small (2 ^ 31) i c.entries (sizes c.entries (Each-from (IsEntry (length d.rows)) c.entries h.0.entries)), by cs h.1)
 

@@ -7,7 +7,7 @@ use Rattle.um_model.specs.Values.{DeckValue, ColumnValue}
 use Rattle.um_model.specs.WellFormed.{IsEntry, AtPlace}
 use Rattle.um_model.specs.declared.deck.Row.{Row}
 use Rattle.um_model.specs.declared.deck.Arc.{Arc}
-use Rattle.um_model.specs.declared.deck.Entry.{Entry as DeckEntry}
+use Rattle.um_model.specs.declared.deck.Entry.{Entry}
 use Rattle.um_statements.specs.declared.parts.EntryPart.{EntryPart}
 use Rattle.um_statements.specs.declared.parts.ArcPart.{ArcPart}
 use Rattle.um_statements.specs.CallRules.{is_zero as is_nothing}
@@ -71,11 +71,11 @@ abbrev value_in : ℕ → List EntryPart → Option Decimal
 value_in place es = option_map (λ (e : EntryPart). e.value) (find (λ (e : EntryPart). nat_eq e.row place) es)
 
 -- the entry in this row
-abbrev pub entry_at : ℕ → List DeckEntry → Option DeckEntry
-entry_at i es = find (λ (e : DeckEntry). nat_eq e.row i) es
+abbrev pub entry_at : ℕ → List Entry → Option Entry
+entry_at i es = find (λ (e : Entry). nat_eq e.row i) es
 
 -- the number in the objective, where one is told: a column without any number tells a 0 there
-abbrev pub cost_told : Bool → ℤ → List DeckEntry → Option ℤ
+abbrev pub cost_told : Bool → ℤ → List Entry → Option ℤ
 cost_told true z [] = Some (pos 0)
 cost_told true z (e ∷ es) = None
 cost_told false z es = Some z
@@ -94,7 +94,7 @@ not_later : (b : ℕ) → nat_eq 0 (suc b) ≡ false
 not_later b = grind (arith, nat_tests)
 
 module _ (d : DeckValue) where
-  abbrev part_at : DeckEntry → EntryPart
+  abbrev part_at : Entry → EntryPart
   part_at e = record { row = suc e.row; value = written (scale_of_row d.rows e.row) e.value }
 
   abbrev pub cost_of : ColumnValue → ℤ
@@ -103,20 +103,20 @@ module _ (d : DeckValue) where
   abbrev cost_part : ℕ → ℤ → EntryPart
   cost_part k z = record { row = 0; value = written k z }
 
-  abbrev parts_as : Bool → ℤ → List DeckEntry → List EntryPart
+  abbrev parts_as : Bool → ℤ → List Entry → List EntryPart
   parts_as true z [] = cost_part 0 (pos 0) ∷ []
   parts_as true z (e ∷ es) = map part_at (e ∷ es)
   parts_as false z es = cost_part d.scale z ∷ map part_at es
 
   module _ (apart : Apart (λ n. n) (d.objective_name ∷ map (λ (r : Row). r.name) d.rows)) where
-    entry_parts : (es : List DeckEntry) → Each (IsEntry (length d.rows)) es → flat_map (part_of (bare_rows d)) (map (entry_number d.rows) es) ≡ map part_at es
+    entry_parts : (es : List Entry) → Each (IsEntry (length d.rows)) es → flat_map (part_of (bare_rows d)) (map (entry_number d.rows) es) ≡ map part_at es
     entry_parts [] h = refl
     entry_parts (e ∷ es) h = rw (row_at d e.row h.0.row apart) (ap (λ (more : List EntryPart). part_at e ∷ more) (entry_parts es h.1))
 
     parts_are : (c : ColumnValue) → Each (IsEntry (length d.rows)) c.entries → (column_known d c).entries ≡ parts_as (is_zero_number (cost_of c)) (cost_of c) c.entries
     parts_are c h = by (is_zero_number (cost_of c)) c.entries h
       where
-        by : (b : Bool) (es : List DeckEntry) → Each (IsEntry (length d.rows)) es
+        by : (b : Bool) (es : List Entry) → Each (IsEntry (length d.rows)) es
             → flat_map (part_of (bare_rows d)) (or_one ((if b then [] else (d.objective_name, d.scale, cost_of c) ∷ []) ++ map (entry_number d.rows) es) (d.objective_name, 0, pos 0)) ≡ parts_as b (cost_of c) es
         by true [] h = rw (objective_at d) refl
         by true (e ∷ es) h = entry_parts (e ∷ es) h
@@ -124,33 +124,33 @@ module _ (d : DeckValue) where
 
   -- ---- in a row
 
-  value_at : (i : ℕ) (es : List DeckEntry) → value_in (suc i) (map part_at es) ≡ option_map (λ (e : DeckEntry). written (scale_of_row d.rows i) e.value) (entry_at i es)
+  value_at : (i : ℕ) (es : List Entry) → value_in (suc i) (map part_at es) ≡ option_map (λ (e : Entry). written (scale_of_row d.rows i) e.value) (entry_at i es)
   value_at i [] = refl
   value_at i (e ∷ es) = rw (later_place e.row i) (by (nat_eq e.row i) refl (value_at i es))
     where
-      by : (t : Bool) → nat_eq e.row i ≡ t → value_in (suc i) (map part_at es) ≡ option_map (λ (e : DeckEntry). written (scale_of_row d.rows i) e.value) (entry_at i es)
-          → option_map (λ (e : EntryPart). e.value) (cond t (Some (part_at e)) (find (λ (e : EntryPart). nat_eq e.row (suc i)) (map part_at es))) ≡ option_map (λ (e : DeckEntry). written (scale_of_row d.rows i) e.value) (cond t (Some e) (entry_at i es))
+      by : (t : Bool) → nat_eq e.row i ≡ t → value_in (suc i) (map part_at es) ≡ option_map (λ (e : Entry). written (scale_of_row d.rows i) e.value) (entry_at i es)
+          → option_map (λ (e : EntryPart). e.value) (cond t (Some (part_at e)) (find (λ (e : EntryPart). nat_eq e.row (suc i)) (map part_at es))) ≡ option_map (λ (e : Entry). written (scale_of_row d.rows i) e.value) (cond t (Some e) (entry_at i es))
       by true same rest = let is : e.row ≡ i = grind (arith, nat_tests) in ap (λ j. Some (written (scale_of_row d.rows j) e.value)) is
       by false other rest = rest
 
-  value_as : (b : Bool) (z : ℤ) (i : ℕ) (es : List DeckEntry) → value_in (suc i) (parts_as b z es) ≡ option_map (λ (e : DeckEntry). written (scale_of_row d.rows i) e.value) (entry_at i es)
+  value_as : (b : Bool) (z : ℤ) (i : ℕ) (es : List Entry) → value_in (suc i) (parts_as b z es) ≡ option_map (λ (e : Entry). written (scale_of_row d.rows i) e.value) (entry_at i es)
   value_as true z i [] = rw (not_later i) refl
   value_as true z i (e ∷ es) = value_at i (e ∷ es)
   value_as false z i es = rw (not_later i) (value_at i es)
 
   -- ---- in the objective
 
-  none_first : (es : List DeckEntry) → value_in 0 (map part_at es) ≡ None
+  none_first : (es : List Entry) → value_in 0 (map part_at es) ≡ None
   none_first [] = refl
   none_first (e ∷ es) = rw (not_first e.row) (none_first es)
 
-  cost_as : (b : Bool) (z : ℤ) (es : List DeckEntry) → value_in 0 (parts_as b z es) ≡ option_map (written d.scale) (cost_told b z es)
+  cost_as : (b : Bool) (z : ℤ) (es : List Entry) → value_in 0 (parts_as b z es) ≡ option_map (written d.scale) (cost_told b z es)
   cost_as true z [] = ap (λ (v : Decimal). Some v) (written_zero 0 ∙ sym (written_zero d.scale))
   cost_as true z (e ∷ es) = none_first (e ∷ es)
   cost_as false z es = refl
 
   module _ (apart : Apart (λ n. n) (d.objective_name ∷ map (λ (r : Row). r.name) d.rows)) where
-    pub known_value : (c : ColumnValue) → Each (IsEntry (length d.rows)) c.entries → (i : ℕ) → entry_in (suc i) (column_known d c) ≡ option_map (λ (e : DeckEntry). written (scale_of_row d.rows i) e.value) (entry_at i c.entries)
+    pub known_value : (c : ColumnValue) → Each (IsEntry (length d.rows)) c.entries → (i : ℕ) → entry_in (suc i) (column_known d c) ≡ option_map (λ (e : Entry). written (scale_of_row d.rows i) e.value) (entry_at i c.entries)
     known_value c h i = ap (value_in (suc i)) (parts_are apart c h) ∙ value_as (is_zero_number (cost_of c)) (cost_of c) i c.entries
 
     pub known_cost : (c : ColumnValue) → Each (IsEntry (length d.rows)) c.entries → entry_in 0 (column_known d c) ≡ option_map (written d.scale) (cost_told (is_zero_number (cost_of c)) (cost_of c) c.entries)

@@ -9,7 +9,7 @@ use Rattle.um_model.specs.Values.{DeckValue, ColumnValue}
 use Rattle.um_model.specs.WellFormed.{IsDeck, IsColumn, IsEntry, IsMultipleOfTen, AtPlace}
 use Rattle.um_model.specs.declared.deck.Row.{Row}
 use Rattle.um_model.specs.declared.deck.Arc.{Arc}
-use Rattle.um_model.specs.declared.deck.Entry.{Entry as DeckEntry}
+use Rattle.um_model.specs.declared.deck.Entry.{Entry}
 use Rattle.um_statements.specs.CallRules.{is_n}
 use Rattle.um_statements.specs.Scaled.{least_scale}
 use Rattle.um_statements.specs.Made.{entry_in, nothing, coefficients, arcs_in, numbers_beside, row_scale as made_scale}
@@ -85,17 +85,17 @@ high_tens None (Some high) h k = some_is IsMultipleOfTen high h
 high_tens (Some low) (Some high) h k = some_is IsMultipleOfTen high (tens_sum low high h k)
 
 -- where the entry in a row is a multiple of ten, no other is in that row
-row_tens : (i : ℕ) (es : List DeckEntry) → AllPairs (λ (a : DeckEntry) (b : DeckEntry). a.row < b.row) es → ForSome (option_map (λ (e : DeckEntry). e.value) (entry_at i es)) IsMultipleOfTen → All (λ (e : DeckEntry). e.row ≡ i → IsMultipleOfTen e.value) es
-row_tens i [] rise h = All-nil (λ (e : DeckEntry). e.row ≡ i → IsMultipleOfTen e.value)
+row_tens : (i : ℕ) (es : List Entry) → AllPairs (λ (a : Entry) (b : Entry). a.row < b.row) es → ForSome (option_map (λ (e : Entry). e.value) (entry_at i es)) IsMultipleOfTen → All (λ (e : Entry). e.row ≡ i → IsMultipleOfTen e.value) es
+row_tens i [] rise h = All-nil (λ (e : Entry). e.row ≡ i → IsMultipleOfTen e.value)
 row_tens i (e ∷ es) rise h = by (nat_eq e.row i) refl h (row_tens i es (λ a b x p q. rise (suc a) (suc b) x (omega (arith, p)) (omega (arith, q))))
   where
-    by : (t : Bool) → nat_eq e.row i ≡ t → ForSome (option_map (λ (e : DeckEntry). e.value) (cond t (Some e) (entry_at i es))) IsMultipleOfTen
-        → (ForSome (option_map (λ (e : DeckEntry). e.value) (entry_at i es)) IsMultipleOfTen → All (λ (e : DeckEntry). e.row ≡ i → IsMultipleOfTen e.value) es) → All (λ (e : DeckEntry). e.row ≡ i → IsMultipleOfTen e.value) (e ∷ es)
+    by : (t : Bool) → nat_eq e.row i ≡ t → ForSome (option_map (λ (e : Entry). e.value) (cond t (Some e) (entry_at i es))) IsMultipleOfTen
+        → (ForSome (option_map (λ (e : Entry). e.value) (entry_at i es)) IsMultipleOfTen → All (λ (e : Entry). e.row ≡ i → IsMultipleOfTen e.value) es) → All (λ (e : Entry). e.row ≡ i → IsMultipleOfTen e.value) (e ∷ es)
     by true t h rest =
         let is : e.row ≡ i = grind (arith, nat_tests) in
-        All-cons (λ (e : DeckEntry). e.row ≡ i → IsMultipleOfTen e.value) e es (λ same. h e.value refl)
+        All-cons (λ (e : Entry). e.row ≡ i → IsMultipleOfTen e.value) e es (λ same. h e.value refl)
         (λ k x p same. let up : e.row < (slice_index_or es k x).row = rise 0 (suc k) x (omega arith) (omega (arith, p)) in absurd (omega (arith, up, same, is)))
-    by false t h rest = All-cons (λ (e : DeckEntry). e.row ≡ i → IsMultipleOfTen e.value) e es (λ same. absurd (grind (arith, nat_tests))) (rest h)
+    by false t h rest = All-cons (λ (e : Entry). e.row ≡ i → IsMultipleOfTen e.value) e es (λ same. absurd (grind (arith, nat_tests))) (rest h)
 
 -- ---- the deck
 
@@ -105,7 +105,7 @@ module _ (d : DeckValue) (deck : IsDeck d) (in_objective : HasObjectiveArcs d) w
 
   -- the values in a row
   abbrev pub values : ℕ → List ℤ
-  values i = filter_map (λ (c : ColumnValue). option_map (λ (e : DeckEntry). e.value) (entry_at i c.entries)) d.columns
+  values i = filter_map (λ (c : ColumnValue). option_map (λ (e : Entry). e.value) (entry_at i c.entries)) d.columns
 
   -- the numbers in the objective
   abbrev pub costs : List ℤ
@@ -118,7 +118,7 @@ module _ (d : DeckValue) (deck : IsDeck d) (in_objective : HasObjectiveArcs d) w
   pub within : Each (λ (c : ColumnValue). Each (IsEntry (length d.rows)) c.entries) d.columns
   within = entries_within d.columns (Each-from (IsColumn (length d.rows)) d.columns deck.columns)
 
-  values_known : (i : ℕ) (cs : List ColumnValue) → Each (λ (c : ColumnValue). Each (IsEntry (length d.rows)) c.entries) cs → Each (λ (c : ColumnValue). entry_in (suc i) (column_known d c) ≡ option_map (λ (e : DeckEntry). written (scale_of_row d.rows i) e.value) (entry_at i c.entries)) cs
+  values_known : (i : ℕ) (cs : List ColumnValue) → Each (λ (c : ColumnValue). Each (IsEntry (length d.rows)) c.entries) cs → Each (λ (c : ColumnValue). entry_in (suc i) (column_known d c) ≡ option_map (λ (e : Entry). written (scale_of_row d.rows i) e.value) (entry_at i c.entries)) cs
   values_known i [] h = tt
   values_known i (c ∷ cs) h = (known_value d apart c h.0 i, values_known i cs h.1)
 
@@ -126,19 +126,19 @@ module _ (d : DeckValue) (deck : IsDeck d) (in_objective : HasObjectiveArcs d) w
   costs_known [] h = tt
   costs_known (c ∷ cs) h = (known_cost d apart c h.0, costs_known cs h.1)
 
-  twice : (k : ℕ) (o : Option DeckEntry) → option_map (λ (e : DeckEntry). written k e.value) o ≡ option_map (written k) (option_map (λ (e : DeckEntry). e.value) o)
+  twice : (k : ℕ) (o : Option Entry) → option_map (λ (e : Entry). written k e.value) o ≡ option_map (written k) (option_map (λ (e : Entry). e.value) o)
   twice k None = refl
   twice k (Some e) = refl
 
-  all_twice : (k i : ℕ) (cs : List ColumnValue) → filter_map (λ (c : ColumnValue). option_map (λ (e : DeckEntry). written k e.value) (entry_at i c.entries)) cs ≡ filter_map (λ (c : ColumnValue). option_map (written k) (option_map (λ (e : DeckEntry). e.value) (entry_at i c.entries))) cs
+  all_twice : (k i : ℕ) (cs : List ColumnValue) → filter_map (λ (c : ColumnValue). option_map (λ (e : Entry). written k e.value) (entry_at i c.entries)) cs ≡ filter_map (λ (c : ColumnValue). option_map (written k) (option_map (λ (e : Entry). e.value) (entry_at i c.entries))) cs
   all_twice k i cs = ap (λ (f : ColumnValue → Option Decimal). filter_map f cs) (λ j c. twice k (entry_at i c.entries) j)
 
   pub row_numbers : (i : ℕ) (r : Row) → AtPlace d.rows i r → coefficients (normal_said d) (suc i) ≡ map (written r.scale) (values i)
   row_numbers i r at =
       let scale = scale_at d.rows i r at in
-      given_same (entry_in (suc i)) (column_known d) (λ (c : ColumnValue). option_map (λ (e : DeckEntry). written (scale_of_row d.rows i) e.value) (entry_at i c.entries)) d.columns (values_known i d.columns within)
+      given_same (entry_in (suc i)) (column_known d) (λ (c : ColumnValue). option_map (λ (e : Entry). written (scale_of_row d.rows i) e.value) (entry_at i c.entries)) d.columns (values_known i d.columns within)
       ∙ all_twice (scale_of_row d.rows i) i d.columns
-      ∙ given_map (written (scale_of_row d.rows i)) (λ (c : ColumnValue). option_map (λ (e : DeckEntry). e.value) (entry_at i c.entries)) d.columns
+      ∙ given_map (written (scale_of_row d.rows i)) (λ (c : ColumnValue). option_map (λ (e : Entry). e.value) (entry_at i c.entries)) d.columns
       ∙ ap (λ k. map (written k) (values i)) scale
 
   pub objective_numbers : coefficients (normal_said d) 0 ≡ map (written d.scale) costs
@@ -150,11 +150,11 @@ module _ (d : DeckValue) (deck : IsDeck d) (in_objective : HasObjectiveArcs d) w
   other_arcs : (i : ℕ) → All (λ (a : Arc). a.row ≡ Some i → IsMultipleOfTen a.value) d.arcs
   other_arcs i = λ k x within same. let other : None ≡ Some i = sym (in_objective k x within) ∙ same in cc
 
-  entries_tens : (i : ℕ) (cs : List ColumnValue) → Each (IsColumn (length d.rows)) cs → All IsMultipleOfTen (filter_map (λ (c : ColumnValue). option_map (λ (e : DeckEntry). e.value) (entry_at i c.entries)) cs)
-      → All (λ (c : ColumnValue). All (λ (e : DeckEntry). e.row ≡ i → IsMultipleOfTen e.value) c.entries) cs
-  entries_tens i cs is tens = each_all (λ (c : ColumnValue). All (λ (e : DeckEntry). e.row ≡ i → IsMultipleOfTen e.value) c.entries) cs (by cs is (Each-from (λ (c : ColumnValue). ForSome (option_map (λ (e : DeckEntry). e.value) (entry_at i c.entries)) IsMultipleOfTen) cs (given_all IsMultipleOfTen (λ (c : ColumnValue). option_map (λ (e : DeckEntry). e.value) (entry_at i c.entries)) cs tens)))
+  entries_tens : (i : ℕ) (cs : List ColumnValue) → Each (IsColumn (length d.rows)) cs → All IsMultipleOfTen (filter_map (λ (c : ColumnValue). option_map (λ (e : Entry). e.value) (entry_at i c.entries)) cs)
+      → All (λ (c : ColumnValue). All (λ (e : Entry). e.row ≡ i → IsMultipleOfTen e.value) c.entries) cs
+  entries_tens i cs is tens = each_all (λ (c : ColumnValue). All (λ (e : Entry). e.row ≡ i → IsMultipleOfTen e.value) c.entries) cs (by cs is (Each-from (λ (c : ColumnValue). ForSome (option_map (λ (e : Entry). e.value) (entry_at i c.entries)) IsMultipleOfTen) cs (given_all IsMultipleOfTen (λ (c : ColumnValue). option_map (λ (e : Entry). e.value) (entry_at i c.entries)) cs tens)))
     where
-      by : (cs : List ColumnValue) → Each (IsColumn (length d.rows)) cs → Each (λ (c : ColumnValue). ForSome (option_map (λ (e : DeckEntry). e.value) (entry_at i c.entries)) IsMultipleOfTen) cs → Each (λ (c : ColumnValue). All (λ (e : DeckEntry). e.row ≡ i → IsMultipleOfTen e.value) c.entries) cs
+      by : (cs : List ColumnValue) → Each (IsColumn (length d.rows)) cs → Each (λ (c : ColumnValue). ForSome (option_map (λ (e : Entry). e.value) (entry_at i c.entries)) IsMultipleOfTen) cs → Each (λ (c : ColumnValue). All (λ (e : Entry). e.row ≡ i → IsMultipleOfTen e.value) c.entries) cs
       by [] is h = tt
       by (c ∷ cs) is h = (row_tens i c.entries is.0.rise h.0, by cs is.1 h.1)
 
@@ -183,7 +183,7 @@ module _ (d : DeckValue) (deck : IsDeck d) (in_objective : HasObjectiveArcs d) w
   abbrev rhs : ℤ
   rhs = neg_ℤ (in_sense d.maximise d.constant)
 
-  cost_tens : (z : ℤ) (es : List DeckEntry) → ForSome (cost_told (is_zero_number z) z es) IsMultipleOfTen → IsMultipleOfTen z
+  cost_tens : (z : ℤ) (es : List Entry) → ForSome (cost_told (is_zero_number z) z es) IsMultipleOfTen → IsMultipleOfTen z
   cost_tens z es = by (is_zero_number z) refl
     where
       by : (b : Bool) → is_zero_number z ≡ b → ForSome (cost_told b z es) IsMultipleOfTen → IsMultipleOfTen z

@@ -8,7 +8,7 @@ use Rattle.um_model.specs.declared.deck.Member.{Member}
 use Rattle.um_model.specs.declared.deck.Kind.{Kind}
 use Rattle.um_model.specs.declared.deck.Kind.TheVariants.{Integer}
 use Rattle.um_statements.specs.declared.parts.RowKind.TheVariants.{N}
-use Rattle.um_statements.specs.Statements.{Name, Statement, Title, Sense, Row as RowTold, Column, Entry, Side, Range, Bound, Set, Member as MemberTold, Arc as ArcTold}
+use Rattle.um_statements.specs.Statements.{Name, Statement, Title, Sense, RowTold, Column, EntryTold, Side, Range, Bound, Set, MemberTold, ArcTold}
 use Rattle.um_round.specs.Numerals.{written}
 use Rattle.um_make.specs.NormalLines.{Number, BoundPart, sides_kind, numbers_of, sides_of, ranges_of, column_bounds, column_name, arc_number}
 
@@ -31,7 +31,7 @@ rows_told d = (RowTold N d.objective_name ∷ []) ∷ map row_told d.rows
 
 -- a line with a number of a column, behind the first
 abbrev pub entry_told : Number → List Statement
-entry_told n = Entry n.0 (written n.1 n.2) ∷ []
+entry_told n = EntryTold n.0 (written n.1 n.2) ∷ []
 
 -- a column's first line begins it
 abbrev pub numbers_told : Name → Bool → List Number → List (List Statement)

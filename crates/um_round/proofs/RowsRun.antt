@@ -11,7 +11,7 @@ use Rattle.um_model.specs.WellFormed.{IsDeck}
 use Rattle.um_model.specs.declared.deck.Row.{Row}
 use Rattle.um_statements.specs.declared.parts.RowKind.{RowKind}
 use Rattle.um_statements.specs.declared.parts.RowKind.TheVariants.{N}
-use Rattle.um_statements.specs.Statements.{Name, Row as RowTold}
+use Rattle.um_statements.specs.Statements.{Name, RowTold}
 use Rattle.um_statements.specs.Said.{Said, RowSaid}
 use Rattle.um_statements.specs.CallRules.{rules_of, with_statement, is_n}
 use Rattle.um_make.specs.NormalLines.{sides_kind}

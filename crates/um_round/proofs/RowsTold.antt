@@ -4,7 +4,7 @@ use Rattle.um_model.specs.Values.{DeckValue}
 use Rattle.um_model.specs.declared.deck.Row.{Row}
 use Rattle.um_statements.specs.declared.parts.RowKind.{RowKind}
 use Rattle.um_statements.specs.declared.parts.RowKind.TheVariants.{N, L, G, E}
-use Rattle.um_statements.specs.Statements.{Name, Statement, Title, Row as RowTold}
+use Rattle.um_statements.specs.Statements.{Name, Statement, Title, RowTold}
 use Rattle.um_decktext.specs.declared.section.Section.TheVariants as section
 use Rattle.um_decktext.specs.Words.{Words}
 use Rattle.um_decktext.specs.DeckLines.{Line, Heading, Data, section_now, data_now}

@@ -12,7 +12,7 @@ use Rattle.um_model.specs.WellFormed.{IsDeck, IsSet, IsMember}
 use Rattle.um_model.specs.declared.deck.Member.{Member}
 use Rattle.um_model.specs.declared.deck.SetKind.{SetKind}
 use Rattle.um_statements.specs.declared.parts.MemberPart.{MemberPart}
-use Rattle.um_statements.specs.Statements.{Name, Statement, Set, Member as MemberTold}
+use Rattle.um_statements.specs.Statements.{Name, Statement, Set, MemberTold}
 use Rattle.um_statements.specs.Scaled.{is_whole_at, is_within_at}
 use Rattle.um_statements.specs.Said.{Said, ColumnSaid, SetSaid, column_place}
 use Rattle.um_statements.specs.CallRules.{rules_of, with_statement, is_at}

@@ -11,7 +11,7 @@ use Rattle.um_statements.specs.declared.parts.RowKind.{RowKind}
 use Rattle.um_statements.specs.declared.parts.EntryPart.{EntryPart}
 use Rattle.um_statements.specs.declared.parts.MemberPart.{MemberPart}
 use Rattle.um_model.specs.declared.deck.SetKind.{SetKind}
-use Rattle.um_statements.specs.Statements.{Name, Statement, Row, Column, Entry, Side, Range, Bound, Set, Member}
+use Rattle.um_statements.specs.Statements.{Name, Statement, RowTold, Column, EntryTold, Side, Range, Bound, Set, MemberTold}
 use Rattle.um_statements.specs.Scaled.{times_ten}
 use Rattle.um_statements.specs.Said.{RowSaid, ColumnSaid, SetSaid, place_in, grouped, first_of, side_of, range_of, row_of, bound_on, ends_of, rows_told, columns_told, column_head, column_of, columns_of, entry_of, set_head, set_of, sets_of, member_of, arc_of}
 use Rattle.um_statements.specs.CallRules.{change_rows, change_columns, change_last, option_list, with_bound, bare_ends}
@@ -23,7 +23,7 @@ use Rattle.um_statements.proofs.KnownNames.{is_known, has_name, no_side, no_rang
 
 pub names_of_rows : (all told : List Statement) → map (λ (r : RowSaid). r.name) (filter_map (row_of all) told) ≡ rows_told told
 names_of_rows all [] = refl
-names_of_rows all (Row kind name ∷ told) = ap (λ (ns : List Name). name ∷ ns) (names_of_rows all told)
+names_of_rows all (RowTold kind name ∷ told) = ap (λ (ns : List Name). name ∷ ns) (names_of_rows all told)
 names_of_rows all (other ∷ told) = names_of_rows all told
 
 pub names_of_columns : (rows : List Name) (all told : List Statement) → map (λ (c : ColumnSaid). c.name) (map (column_of all) (grouped column_head (entry_of rows) told)) ≡ columns_told told
@@ -36,7 +36,7 @@ names_of_columns rows all (other ∷ told) = names_of_columns rows all told
 -- a list of rows whose statements have the same sides and ranges
 same_rows : (told more : List Statement) → ((name : Name) → filter_map (side_of name) more ≡ filter_map (side_of name) told) → ((name : Name) → filter_map (range_of name) more ≡ filter_map (range_of name) told)
     → (s : Statement) → row_of more s ≡ row_of told s
-same_rows told more sides ranges (Row kind name) = rw (sides name, ranges name) refl
+same_rows told more sides ranges (RowTold kind name) = rw (sides name, ranges name) refl
 same_rows told more sides ranges other = refl
 
 pub rows_quiet : (told : List Statement) (s : Statement) → ((name : Name) → side_of name s ≡ None) → ((name : Name) → range_of name s ≡ None) → row_of (told ++ s ∷ []) s ≡ None
@@ -46,11 +46,11 @@ rows_quiet told s side range none =
     ∙ ap (λ (f : Statement → Option RowSaid). filter_map f told) (λ j t. same_rows told (told ++ s ∷ []) (λ name. quiet (side_of name) told s (side name)) (λ name. quiet (range_of name) told s (range name)) t j)
 
 pub rows_push : (rows columns : List Name) (told : List Statement) (kind : RowKind) (name : Name) → has_name rows name ≡ false → list_all (is_known rows columns) told ≡ true
-    → filter_map (row_of (told ++ Row kind name ∷ [])) (told ++ Row kind name ∷ []) ≡ filter_map (row_of told) told ++ record { name = name; kind = kind; side = None; range = None } ∷ []
+    → filter_map (row_of (told ++ RowTold kind name ∷ [])) (told ++ RowTold kind name ∷ []) ≡ filter_map (row_of told) told ++ record { name = name; kind = kind; side = None; range = None } ∷ []
 rows_push rows columns told kind name new all =
-    filter_map-append (row_of (told ++ Row kind name ∷ [])) told (Row kind name ∷ [])
-    ∙ ap (λ (f : Statement → Option RowSaid). filter_map f told ++ filter_map f (Row kind name ∷ []))
-    (λ j t. same_rows told (told ++ Row kind name ∷ []) (λ n. quiet (side_of n) told (Row kind name) refl) (λ n. quiet (range_of n) told (Row kind name) refl) t j)
+    filter_map-append (row_of (told ++ RowTold kind name ∷ [])) told (RowTold kind name ∷ [])
+    ∙ ap (λ (f : Statement → Option RowSaid). filter_map f told ++ filter_map f (RowTold kind name ∷ []))
+    (λ j t. same_rows told (told ++ RowTold kind name ∷ []) (λ n. quiet (side_of n) told (RowTold kind name) refl) (λ n. quiet (range_of n) told (RowTold kind name) refl) t j)
     ∙ rw (no_side rows columns name new told all, no_range rows columns name new told all) refl
 
 first_push : {A : Type 0} (xs : List A) (o : Option A) → find (λ a. true) (xs ++ option_list o) ≡ option_or (find (λ a. true) xs) o
@@ -70,7 +70,7 @@ row_with name kind side range = record { name = name; kind = kind; side = side; 
 
 side_put : (told : List Statement) (row : Name) (value : Decimal) (s : Statement)
     → row_of (told ++ Side row value ∷ []) s ≡ option_map (λ (r : RowSaid). if bytes_eq row r.name then record r { side = option_or r.side (Some value) } else r) (row_of told s)
-side_put told row value (Row kind name) =
+side_put told row value (RowTold kind name) =
     rw (first_of_push (side_of name) told (Side row value), quiet (range_of name) told (Side row value) refl) (by (bytes_eq row name))
   where
     by : (b : Bool) → Some (row_with name kind (option_or (first_of (side_of name) told) (if b then Some value else None)) (first_of (range_of name) told))
@@ -81,7 +81,7 @@ side_put told row value other = refl
 
 range_put : (told : List Statement) (row : Name) (value : Decimal) (s : Statement)
     → row_of (told ++ Range row value ∷ []) s ≡ option_map (λ (r : RowSaid). if bytes_eq row r.name then record r { range = option_or r.range (Some value) } else r) (row_of told s)
-range_put told row value (Row kind name) =
+range_put told row value (RowTold kind name) =
     rw (first_of_push (range_of name) told (Range row value), quiet (side_of name) told (Range row value) refl) (by (bytes_eq row name))
   where
     by : (b : Bool) → Some (row_with name kind (first_of (side_of name) told) (option_or (first_of (range_of name) told) (if b then Some value else None)))
@@ -115,9 +115,9 @@ columns_quiet rows told s head entry bound =
     ∙ same_columns told (told ++ s ∷ []) (λ name. quiet (bound_on name) told s (bound name)) (grouped column_head (entry_of rows) told)
 
 pub columns_row : (rows columns more : List Name) (told : List Statement) (kind : RowKind) (name : Name) → list_all (is_known rows columns) told ≡ true
-    → columns_of (rows ++ more) (told ++ Row kind name ∷ []) ≡ columns_of rows told
+    → columns_of (rows ++ more) (told ++ RowTold kind name ∷ []) ≡ columns_of rows told
 columns_row rows columns more told kind name all =
-    columns_quiet (rows ++ more) told (Row kind name) refl refl (λ n. refl)
+    columns_quiet (rows ++ more) told (RowTold kind name) refl refl (λ n. refl)
     ∙ ap (map (column_of told)) (grouped_same column_head (entry_of rows) column_head (entry_of (rows ++ more)) (is_known rows columns) (λ s known. (refl, entry_same rows columns more s known)) told all)
 
 pub columns_push : (rows columns : List Name) (told : List Statement) (name : Name) (in_block : Bool) → has_name columns name ≡ false → list_all (is_known rows columns) told ≡ true
@@ -129,12 +129,12 @@ columns_push rows columns told name in_block new all =
     ∙ rw (no_bound rows columns name new told all, no_bounds in_block) refl
 
 pub columns_entry : (rows : List Name) (told : List Statement) (row : Name) (value : Decimal)
-    → columns_of rows (told ++ Entry row value ∷ [])
+    → columns_of rows (told ++ EntryTold row value ∷ [])
     ≡ change_last (λ (c : ColumnSaid). record c { entries = c.entries ++ option_list (option_map (λ place. record { row = place; value = value }) (place_in rows row)) }) (columns_of rows told)
 columns_entry rows told row value =
-    ap (map (column_of (told ++ Entry row value ∷ []))) (item_push column_head (entry_of rows) told (Entry row value) refl)
-    ∙ same_columns told (told ++ Entry row value ∷ []) (λ n. quiet (bound_on n) told (Entry row value) refl) (change_last (λ (g : (Name × Bool) × List EntryPart). (g.0, g.1 ++ option_list (entry_of rows (Entry row value)))) (grouped column_head (entry_of rows) told))
-    ∙ map_last (column_of told) (λ (g : (Name × Bool) × List EntryPart). (g.0, g.1 ++ option_list (entry_of rows (Entry row value))))
+    ap (map (column_of (told ++ EntryTold row value ∷ []))) (item_push column_head (entry_of rows) told (EntryTold row value) refl)
+    ∙ same_columns told (told ++ EntryTold row value ∷ []) (λ n. quiet (bound_on n) told (EntryTold row value) refl) (change_last (λ (g : (Name × Bool) × List EntryPart). (g.0, g.1 ++ option_list (entry_of rows (EntryTold row value)))) (grouped column_head (entry_of rows) told))
+    ∙ map_last (column_of told) (λ (g : (Name × Bool) × List EntryPart). (g.0, g.1 ++ option_list (entry_of rows (EntryTold row value))))
     (λ (c : ColumnSaid). record c { entries = c.entries ++ option_list (option_map (λ place. record { row = place; value = value }) (place_in rows row)) }) (λ g. refl) (grouped column_head (entry_of rows) told)
 
 bound_put : (told : List Statement) (kind : BoundKind) (column : Name) (value : Option Decimal) (p : (Name × Bool) × List EntryPart)
@@ -171,11 +171,11 @@ sets_push rows columns told kind name reference =
     ∙ map-append set_of (grouped (set_head rows) (member_of columns) told) (((name, kind, option_and_then (place_in rows) reference), []) ∷ [])
 
 pub sets_member : (rows columns : List Name) (told : List Statement) (column : Name) (weight : Option Decimal)
-    → sets_of rows columns (told ++ Member column weight ∷ [])
+    → sets_of rows columns (told ++ MemberTold column weight ∷ [])
     ≡ change_last (λ (s : SetSaid). record s { members = s.members ++ option_list (option_map (λ place. record { column = place; weight = option_map (λ v. times_ten v 6) weight }) (place_in columns column)) }) (sets_of rows columns told)
 sets_member rows columns told column weight =
-    ap (map set_of) (item_push (set_head rows) (member_of columns) told (Member column weight) refl)
-    ∙ map_last set_of (λ (g : (Name × SetKind × Option ℕ) × List MemberPart). (g.0, g.1 ++ option_list (member_of columns (Member column weight))))
+    ap (map set_of) (item_push (set_head rows) (member_of columns) told (MemberTold column weight) refl)
+    ∙ map_last set_of (λ (g : (Name × SetKind × Option ℕ) × List MemberPart). (g.0, g.1 ++ option_list (member_of columns (MemberTold column weight))))
     (λ (s : SetSaid). record s { members = s.members ++ option_list (option_map (λ place. record { column = place; weight = option_map (λ v. times_ten v 6) weight }) (place_in columns column)) }) (λ g. refl) (grouped (set_head rows) (member_of columns) told)
 
 -- ---- arcs

@@ -3,10 +3,10 @@ use Rattle.std.proofs.Common.{◌≡◌, Bool, true, false, not, List, [], ◌�
 use Rattle.std.specs.List.{filter_map, list_all}
 use Rattle.std.specs.Option.{option_or, option_map_or}
 use Rattle.um_statements.specs.declared.fault.Fault.{Fault}
-use Rattle.um_statements.specs.Statements.{Name, Statement, Title, Sense, Row, Column, Entry, Side, Range, Bound, Set, Member, Arc}
+use Rattle.um_statements.specs.Statements.{Name, Statement, Title, Sense, RowTold, Column, EntryTold, Side, Range, Bound, Set, MemberTold, ArcTold}
 use Rattle.um_statements.specs.Said.{Said, RowSaid, ColumnSaid, row_of, place_in, title_of, sense_of, named_row, named_column, rows_told, columns_told, columns_of, sets_of, arc_of, collected, nothing_said}
 use Rattle.um_statements.specs.CallRules.{Rule, first_fault, fault_of, rules_of, faults_in, with_statement, with_all, option_list}
-use Rattle.um_statements.specs.Laws.{GoesOn}
+use Rattle.um_statements.specs.Laws.{TakesMore}
 use Rattle.um_statements.proofs.LastBounds.{last_of_push}
 use Rattle.um_statements.proofs.Grouped.{quiet, loud}
 use Rattle.um_statements.proofs.KnownNames.{is_known, has_name, known_push}
@@ -57,21 +57,21 @@ sense_step told other = rw (quiet sense_of told other refl) refl
 
 rows_step : (told : List Statement) (s : Statement) → AllKnown told → fault_of (collected told) s ≡ None → (collected (told ++ s ∷ [])).rows ≡ (with_statement s (collected told)).rows
 unfolding collected with_statement rules_of
-rows_step told (Row kind name) known fine =
-    rows_push (rows_told told) (columns_told told) told kind name (row_known told name false (none_broken (rules_of (collected told) (Row kind name)) fine).0) known
+rows_step told (RowTold kind name) known fine =
+    rows_push (rows_told told) (columns_told told) told kind name (row_known told name false (none_broken (rules_of (collected told) (RowTold kind name)) fine).0) known
 rows_step told (Side row value) known fine = rows_side told row value
 rows_step told (Range row value) known fine = rows_range told row value
 rows_step told other known fine = rows_quiet told other (λ n. refl) (λ n. refl) refl
 
 columns_step : (told : List Statement) (s : Statement) → AllKnown told → fault_of (collected told) s ≡ None → (collected (told ++ s ∷ [])).columns ≡ (with_statement s (collected told)).columns
 unfolding collected with_statement rules_of
-columns_step told (Row kind name) known fine =
-    rw (loud named_row told (Row kind name)) (columns_row (rows_told told) (columns_told told) (name ∷ []) told kind name known)
+columns_step told (RowTold kind name) known fine =
+    rw (loud named_row told (RowTold kind name)) (columns_row (rows_told told) (columns_told told) (name ∷ []) told kind name known)
 columns_step told (Column name in_block) known fine =
     rw (quiet named_row told (Column name in_block) refl)
     (columns_push (rows_told told) (columns_told told) told name in_block (column_known told name false (none_broken (rules_of (collected told) (Column name in_block)) fine).0) known)
-columns_step told (Entry row value) known fine =
-    rw (quiet named_row told (Entry row value) refl, names_of_rows told told) (columns_entry (rows_told told) told row value)
+columns_step told (EntryTold row value) known fine =
+    rw (quiet named_row told (EntryTold row value) refl, names_of_rows told told) (columns_entry (rows_told told) told row value)
 columns_step told (Bound kind column value) known fine =
     rw (quiet named_row told (Bound kind column value) refl) (columns_bound (rows_told told) told kind column value)
 columns_step told other known fine =
@@ -79,9 +79,9 @@ columns_step told other known fine =
 
 sets_step : (told : List Statement) (s : Statement) → AllKnown told → (collected (told ++ s ∷ [])).sets ≡ (with_statement s (collected told)).sets
 unfolding collected with_statement
-sets_step told (Row kind name) known =
-    rw (loud named_row told (Row kind name), quiet named_column told (Row kind name) refl)
-    (sets_quiet (rows_told told ++ name ∷ []) (columns_told told) told (Row kind name) refl refl ∙ sets_row (rows_told told) (columns_told told) (name ∷ []) told known)
+sets_step told (RowTold kind name) known =
+    rw (loud named_row told (RowTold kind name), quiet named_column told (RowTold kind name) refl)
+    (sets_quiet (rows_told told ++ name ∷ []) (columns_told told) told (RowTold kind name) refl refl ∙ sets_row (rows_told told) (columns_told told) (name ∷ []) told known)
 sets_step told (Column name in_block) known =
     rw (quiet named_row told (Column name in_block) refl, loud named_column told (Column name in_block))
     (sets_quiet (rows_told told) (columns_told told ++ name ∷ []) told (Column name in_block) refl refl ∙ sets_column (rows_told told) (columns_told told) (name ∷ []) told known)
@@ -89,22 +89,22 @@ sets_step told (Set kind name reference) known =
     rw (quiet named_row told (Set kind name reference) refl, quiet named_column told (Set kind name reference) refl)
     (sets_push (rows_told told) (columns_told told) told kind name reference
     ∙ ap (λ (ns : List Name). sets_of (rows_told told) (columns_told told) told ++ record { name = name; kind = kind; reference = option_and_then (place_in ns) reference; members = [] } ∷ []) (sym (names_of_rows told told)))
-sets_step told (Member column weight) known =
-    rw (quiet named_row told (Member column weight) refl, quiet named_column told (Member column weight) refl, names_of_columns (rows_told told) told told) (sets_member (rows_told told) (columns_told told) told column weight)
+sets_step told (MemberTold column weight) known =
+    rw (quiet named_row told (MemberTold column weight) refl, quiet named_column told (MemberTold column weight) refl, names_of_columns (rows_told told) told told) (sets_member (rows_told told) (columns_told told) told column weight)
 sets_step told other known =
     rw (quiet named_row told other refl, quiet named_column told other refl) (sets_quiet (rows_told told) (columns_told told) told other refl refl)
 
 arcs_step : (told : List Statement) (s : Statement) → AllKnown told → (collected (told ++ s ∷ [])).arcs ≡ (with_statement s (collected told)).arcs
 unfolding collected with_statement
-arcs_step told (Row kind name) known =
-    rw (loud named_row told (Row kind name), quiet named_column told (Row kind name) refl)
-    (quiet (arc_of (rows_told told ++ name ∷ []) (columns_told told)) told (Row kind name) refl ∙ arcs_row (rows_told told) (columns_told told) (name ∷ []) told known)
+arcs_step told (RowTold kind name) known =
+    rw (loud named_row told (RowTold kind name), quiet named_column told (RowTold kind name) refl)
+    (quiet (arc_of (rows_told told ++ name ∷ []) (columns_told told)) told (RowTold kind name) refl ∙ arcs_row (rows_told told) (columns_told told) (name ∷ []) told known)
 arcs_step told (Column name in_block) known =
     rw (quiet named_row told (Column name in_block) refl, loud named_column told (Column name in_block))
     (quiet (arc_of (rows_told told) (columns_told told ++ name ∷ [])) told (Column name in_block) refl ∙ arcs_column (rows_told told) (columns_told told) (name ∷ []) told known)
-arcs_step told (Arc row column value) known =
-    rw (quiet named_row told (Arc row column value) refl, quiet named_column told (Arc row column value) refl, names_of_rows told told, names_of_columns (rows_told told) told told)
-    (loud (arc_of (rows_told told) (columns_told told)) told (Arc row column value))
+arcs_step told (ArcTold row column value) known =
+    rw (quiet named_row told (ArcTold row column value) refl, quiet named_column told (ArcTold row column value) refl, names_of_rows told told, names_of_columns (rows_told told) told told)
+    (loud (arc_of (rows_told told) (columns_told told)) told (ArcTold row column value))
 arcs_step told other known =
     rw (quiet named_row told other refl, quiet named_column told other refl) (quiet (arc_of (rows_told told) (columns_told told)) told other refl)
 
@@ -122,14 +122,14 @@ reference_known told (Some row) h = row_known told row true (not_false _ h)
 -- a statement that breaks no rule speaks of known names
 speaks_of_known : (told : List Statement) (s : Statement) → fault_of (collected told) s ≡ None → is_known (rows_told told) (columns_told told) s ≡ true
 unfolding collected rules_of
-speaks_of_known told (Entry row value) fine = row_known told row true (not_false _ (none_broken (rules_of (collected told) (Entry row value)) fine).0)
+speaks_of_known told (EntryTold row value) fine = row_known told row true (not_false _ (none_broken (rules_of (collected told) (EntryTold row value)) fine).0)
 speaks_of_known told (Side row value) fine = row_known told row true (not_false _ (none_broken (rules_of (collected told) (Side row value)) fine).0)
 speaks_of_known told (Range row value) fine = row_known told row true (not_false _ (none_broken (rules_of (collected told) (Range row value)) fine).0)
 speaks_of_known told (Bound kind column value) fine = column_known told column true (not_false _ (none_broken (rules_of (collected told) (Bound kind column value)) fine).0)
 speaks_of_known told (Set kind name reference) fine = reference_known told reference (none_broken (rules_of (collected told) (Set kind name reference)) fine).0
-speaks_of_known told (Member column weight) fine = column_known told column true (not_false _ (none_broken (rules_of (collected told) (Member column weight)) fine).0)
-speaks_of_known told (Arc row column value) fine =
-    let rules = none_broken (rules_of (collected told) (Arc row column value)) fine in
+speaks_of_known told (MemberTold column weight) fine = column_known told column true (not_false _ (none_broken (rules_of (collected told) (MemberTold column weight)) fine).0)
+speaks_of_known told (ArcTold row column value) fine =
+    let rules = none_broken (rules_of (collected told) (ArcTold row column value)) fine in
     rw (row_known told row true (not_false _ rules.0), column_known told column true (not_false _ rules.1.0)) refl
 speaks_of_known told other fine = refl
 
@@ -140,7 +140,7 @@ known-more told s known fine =
     (more_names told s (speaks_of_known told s fine)))
   where
     more_names : (told : List Statement) (s : Statement) → is_known (rows_told told) (columns_told told) s ≡ true → is_known (rows_told told ++ option_list (named_row s)) (columns_told told ++ option_list (named_column s)) s ≡ true
-    more_names told (Row kind name) h = refl
+    more_names told (RowTold kind name) h = refl
     more_names told (Column name in_block) h = refl
     more_names told other h = (λ i. is_known (append-nil (rows_told told) i) (append-nil (columns_told told) i) other) ∙ h
 
@@ -182,7 +182,7 @@ pub all_append : (said : Said) (xs ys : List Statement) → with_all (xs ++ ys) 
 all_append said [] ys = refl
 all_append said (s ∷ xs) ys = all_append (with_statement s said) xs ys
 
-pub more-law : (before more : List Statement) → faults_in nothing_said before ≡ None → faults_in (collected before) more ≡ None → GoesOn before more
+pub more-law : (before more : List Statement) → faults_in nothing_said before ≡ None → faults_in (collected before) more ≡ None → TakesMore before more
 more-law before more fine fine2 =
     let first = collected-law before fine in
     let all : faults_in nothing_said (before ++ more) ≡ None

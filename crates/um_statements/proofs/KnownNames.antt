@@ -6,7 +6,7 @@ use Rattle.std.specs.Str.{bytes_eq}
 use Rattle.std.proofs.lemmas.Bool.Decides.{nat_tests}
 use Rattle.std.proofs.lemmas.Slice.Eq.{bytes_eq-Decides}
 use Rattle.std.proofs.lemmas.List.Folds.{list_all-append}
-use Rattle.um_statements.specs.Statements.{Name, Statement, Entry, Side, Range, Bound, Set, Member, Arc}
+use Rattle.um_statements.specs.Statements.{Name, Statement, EntryTold, Side, Range, Bound, Set, MemberTold, ArcTold}
 use Rattle.um_statements.specs.Said.{place_in, side_of, range_of, bound_on, entry_of, member_of, set_head, arc_of}
 use Rattle.um_statements.proofs.Grouped.{and_true, silent}
 
@@ -62,13 +62,13 @@ other_name names known new some none = by (bytes_eq known new) refl
 
 -- each name that it speaks of is there
 abbrev pub is_known : List Name → List Name → Statement → Bool
-is_known rows columns (Entry row value) = has_name rows row
+is_known rows columns (EntryTold row value) = has_name rows row
 is_known rows columns (Side row value) = has_name rows row
 is_known rows columns (Range row value) = has_name rows row
 is_known rows columns (Bound kind column value) = has_name columns column
 is_known rows columns (Set kind name reference) = option_map_or (has_name rows) reference true
-is_known rows columns (Member column weight) = has_name columns column
-is_known rows columns (Arc row column value) = has_name rows row && has_name columns column
+is_known rows columns (MemberTold column weight) = has_name columns column
+is_known rows columns (ArcTold row column value) = has_name rows row && has_name columns column
 is_known rows columns other = true
 
 both_true : (a b : Bool) → a ≡ true → b ≡ true → (a && b) ≡ true
@@ -79,13 +79,13 @@ set_stays rows more None h = refl
 set_stays rows more (Some row) h = name_stays rows more row h
 
 stays_known : (rows columns more more2 : List Name) (s : Statement) → is_known rows columns s ≡ true → is_known (rows ++ more) (columns ++ more2) s ≡ true
-stays_known rows columns more more2 (Entry row value) h = name_stays rows more row h
+stays_known rows columns more more2 (EntryTold row value) h = name_stays rows more row h
 stays_known rows columns more more2 (Side row value) h = name_stays rows more row h
 stays_known rows columns more more2 (Range row value) h = name_stays rows more row h
 stays_known rows columns more more2 (Bound kind column value) h = name_stays columns more2 column h
 stays_known rows columns more more2 (Set kind name reference) h = set_stays rows more reference h
-stays_known rows columns more more2 (Member column weight) h = name_stays columns more2 column h
-stays_known rows columns more more2 (Arc row column value) h =
+stays_known rows columns more more2 (MemberTold column weight) h = name_stays columns more2 column h
+stays_known rows columns more more2 (ArcTold row column value) h =
     let both = and_true (has_name rows row) (has_name columns column) h in
     both_true _ _ (name_stays rows more row both.0) (name_stays columns more2 column both.1)
 stays_known rows columns more more2 other h = refl
@@ -130,11 +130,11 @@ module _ (rows columns : List Name) (new : Name) where
 
 module _ (rows columns more : List Name) where
   pub entry_same : (s : Statement) → is_known rows columns s ≡ true → entry_of (rows ++ more) s ≡ entry_of rows s
-  entry_same (Entry row value) known = rw (place_more rows more row known) refl
+  entry_same (EntryTold row value) known = rw (place_more rows more row known) refl
   entry_same other known = refl
 
   pub member_same : (s : Statement) → is_known rows columns s ≡ true → member_of (columns ++ more) s ≡ member_of columns s
-  member_same (Member column weight) known = rw (place_more columns more column known) refl
+  member_same (MemberTold column weight) known = rw (place_more columns more column known) refl
   member_same other known = refl
 
   pub set_same : (s : Statement) → is_known rows columns s ≡ true → set_head (rows ++ more) s ≡ set_head rows s
@@ -143,9 +143,9 @@ module _ (rows columns more : List Name) where
   set_same other known = refl
 
   pub arc_same_row : (s : Statement) → is_known rows columns s ≡ true → arc_of (rows ++ more) columns s ≡ arc_of rows columns s
-  arc_same_row (Arc row column value) known = rw (place_more rows more row (and_true (has_name rows row) (has_name columns column) known).0) refl
+  arc_same_row (ArcTold row column value) known = rw (place_more rows more row (and_true (has_name rows row) (has_name columns column) known).0) refl
   arc_same_row other known = refl
 
   pub arc_same_column : (s : Statement) → is_known rows columns s ≡ true → arc_of rows (columns ++ more) s ≡ arc_of rows columns s
-  arc_same_column (Arc row column value) known = rw (place_more columns more column (and_true (has_name rows row) (has_name columns column) known).1) refl
+  arc_same_column (ArcTold row column value) known = rw (place_more columns more column (and_true (has_name rows row) (has_name columns column) known).1) refl
   arc_same_column other known = refl

@@ -7,7 +7,7 @@ use Rattle.std.proofs.lemmas.Bool.Decides.{nat_tests}
 use Rattle.um_model.specs.Values.{ColumnValue}
 use Rattle.um_model.specs.WellFormed.{IsArc, IsWithin, HasTwoEnds, AtPlace, has_arc, arc_columns}
 use Rattle.um_model.specs.declared.deck.Kind.TheVariants.{Continuous, Integer, Semi}
-use Rattle.um_model.specs.declared.deck.Arc.{Arc as DeckArc}
+use Rattle.um_model.specs.declared.deck.Arc.{Arc}
 use Rattle.um_statements.specs.declared.parts.Ends.{Ends}
 use Rattle.um_statements.specs.declared.parts.ArcPart.{ArcPart}
 use Rattle.um_statements.specs.Said.{Said, RowSaid, ColumnSaid}
@@ -23,7 +23,7 @@ use Rattle.um_statements.proofs.MadeColumns.{row_facts, ColumnFacts, columns_fin
 
 -- ---- one arc
 
-arc_gives : (said : Said) (a : ArcPart) (e : DeckArc) → arc_made said a ≡ Some e → (is_zero a.value ≡ false) × (e ≡ record { row = None; column = a.column; value = for_minimising said.maximise (times_ten a.value (objective_scale said)) })
+arc_gives : (said : Said) (a : ArcPart) (e : Arc) → arc_made said a ≡ Some e → (is_zero a.value ≡ false) × (e ≡ record { row = None; column = a.column; value = for_minimising said.maximise (times_ten a.value (objective_scale said)) })
 arc_gives said a e is = by (is_zero a.value) refl is
   where
     by : (b : Bool) → is_zero a.value ≡ b → (if b then None else Some (record { row = None; column = a.column; value = for_minimising said.maximise (times_ten a.value (objective_scale said)) })) ≡ Some e
@@ -93,21 +93,21 @@ pub made_arcs : (said : Said) → IsSaid said → IsFine said → All (IsArc (de
 unfolding deck_value
 made_arcs said is fine = all_given (IsArc (deck_value said)) (arc_made said) said.arcs (deck_arc said is fine)
 
-pub made_objective_arcs : (said : Said) → All (λ (a : DeckArc). a.row ≡ None) (deck_value said).arcs
+pub made_objective_arcs : (said : Said) → All (λ (a : Arc). a.row ≡ None) (deck_value said).arcs
 unfolding deck_value
-made_objective_arcs said = all_given (λ (a : DeckArc). a.row ≡ None) (arc_made said) said.arcs (λ k d within e made. ap (λ (b : DeckArc). b.row) (arc_gives said (get_or said.arcs k d) e made).1)
+made_objective_arcs said = all_given (λ (a : Arc). a.row ≡ None) (arc_made said) said.arcs (λ k d within e made. ap (λ (b : Arc). b.row) (arc_gives said (get_or said.arcs k d) e made).1)
 
-pub made_distinct_arcs : (said : Said) → IsSaid said → AllPairs (λ (a : DeckArc) (b : DeckArc). (a.row ≡ b.row) → a.column ≢ b.column) (deck_value said).arcs
+pub made_distinct_arcs : (said : Said) → IsSaid said → AllPairs (λ (a : Arc) (b : Arc). (a.row ≡ b.row) → a.column ≢ b.column) (deck_value said).arcs
 unfolding deck_value
 made_distinct_arcs said is =
-    pairs_given (λ (a : DeckArc) (b : DeckArc). (a.row ≡ b.row) → a.column ≢ b.column) (arc_made said) said.arcs
+    pairs_given (λ (a : Arc) (b : Arc). (a.row ≡ b.row) → a.column ≢ b.column) (arc_made said) said.arcs
     (λ i j d lt within a made b made2 rows columns.
     let x : ArcPart = get_or said.arcs i d in
     let y : ArcPart = get_or said.arcs j d in
     let first = (is.arc_part.each i d (omega (arith, lt, within))).row_place in
     let second = (is.arc_part.each j d within).row_place in
     let same : x.row ≡ y.row = cc in
-    is.arc_part.distinct i j d lt within same (sym (ap (λ (e : DeckArc). e.column) (arc_gives said x a made).1) ∙ columns ∙ ap (λ (e : DeckArc). e.column) (arc_gives said y b made2).1))
+    is.arc_part.distinct i j d lt within same (sym (ap (λ (e : Arc). e.column) (arc_gives said x a made).1) ∙ columns ∙ ap (λ (e : Arc). e.column) (arc_gives said y b made2).1))
 
 -- ---- how many columns have arcs
 

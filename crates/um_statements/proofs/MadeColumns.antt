@@ -8,7 +8,7 @@ use Rattle.std.proofs.lemmas.Bool.Decides.{nat_tests}
 use Rattle.um_num.specs.declared.decimal.Decimal.{Decimal}
 use Rattle.um_model.specs.WellFormed.{IsColumn, IsEntry, IsWithin, KindFits, HasTwoEnds}
 use Rattle.um_model.specs.declared.deck.Kind.TheVariants.{Continuous, Integer, Semi}
-use Rattle.um_model.specs.declared.deck.Entry.{Entry as DeckEntry}
+use Rattle.um_model.specs.declared.deck.Entry.{Entry}
 use Rattle.um_statements.specs.declared.parts.End.{End}
 use Rattle.um_statements.specs.declared.parts.Ends.{Ends}
 use Rattle.um_statements.specs.Said.{Said, RowSaid, ColumnSaid}
@@ -147,7 +147,7 @@ cost_size said fine k d within =
     let fits = given_pass (is_within_at (2 ^ 31) (row_scale said p.0 p.1)) (entry_in p.0) said.columns facts.costs k d within in
     minimised_size said.maximise (2 ^ 31) (times_ten (unwrap_or (entry_in p.0 c) nothing) (row_scale said p.0 p.1)) (number_size (2 ^ 31) (row_scale said p.0 p.1) (entry_in p.0 c) fits))
 
-pub entry_gives : (said : Said) (c : ColumnSaid) (p : ℕ × (ℕ × RowSaid)) (e : DeckEntry) → entry_made said c p ≡ Some e
+pub entry_gives : (said : Said) (c : ColumnSaid) (p : ℕ × (ℕ × RowSaid)) (e : Entry) → entry_made said c p ≡ Some e
     → (e.row ≡ p.0) × ((v : Decimal) × (entry_in p.1.0 c ≡ Some v) × (is_zero v ≡ false) × (e.value ≡ times_ten v (row_scale said p.1.0 p.1.1)))
 entry_gives said c p e is = by (entry_in p.1.0 c) refl is
   where
@@ -177,9 +177,9 @@ entry_fits said fine k d within =
       size = subst (IsWithin (2 ^ 31)) (sym gives.1.3) (is_most _ (2 ^ 31) (fits gives.1.0 gives.1.1));
     }))
 
-entries_rise : (said : Said) (c : ColumnSaid) → AllPairs (λ (a : DeckEntry) (b : DeckEntry). a.row < b.row) (column_made said c).entries
+entries_rise : (said : Said) (c : ColumnSaid) → AllPairs (λ (a : Entry) (b : Entry). a.row < b.row) (column_made said c).entries
 entries_rise said c =
-    pairs_given (λ (a : DeckEntry) (b : DeckEntry). a.row < b.row) (entry_made said c) (enumerate_from 0 (sided_rows said))
+    pairs_given (λ (a : Entry) (b : Entry). a.row < b.row) (entry_made said c) (enumerate_from 0 (sided_rows said))
     (λ i j d lt within a is b is2.
     let low = (entry_gives said c (get_or (enumerate_from 0 (sided_rows said)) i d) a is).0 in
     let high = (entry_gives said c (get_or (enumerate_from 0 (sided_rows said)) j d) b is2).0 in

@@ -7,7 +7,7 @@ use Rattle.std.proofs.lemmas.List.Kept.{AllPairs-cons, AllPairs-filter}
 use Rattle.std.proofs.lemmas.List.Sums.{length-filter}
 use Rattle.um_model.specs.Values.{ColumnValue, SetValue}
 use Rattle.um_model.specs.WellFormed.{IsRow}
-use Rattle.um_model.specs.declared.deck.Row.{Row as DeckRow}
+use Rattle.um_model.specs.declared.deck.Row.{Row}
 use Rattle.um_statements.specs.Statements.{Name}
 use Rattle.um_statements.specs.Said.{Said, RowSaid, ColumnSaid, SetSaid}
 use Rattle.um_statements.specs.CallRules.{is_n}
@@ -31,20 +31,20 @@ objective_name_is : (said : Said) (p : ℕ × RowSaid) → objective said ≡ So
 unfolding deck_value
 objective_name_is said p is = rw is refl
 
-with_rows : (said : Said) (p : ℕ × RowSaid) → All (RowsApart p) (sided_rows said) → AllPairs RowsApart (sided_rows said) → AllPairs (λ (a : Name) (b : Name). a ≢ b) (p.1.name ∷ map (λ (r : DeckRow). r.name) (deck_value said).rows)
+with_rows : (said : Said) (p : ℕ × RowSaid) → All (RowsApart p) (sided_rows said) → AllPairs RowsApart (sided_rows said) → AllPairs (λ (a : Name) (b : Name). a ≢ b) (p.1.name ∷ map (λ (r : Row). r.name) (deck_value said).rows)
 unfolding deck_value
 with_rows said p behind rest =
-    AllPairs-cons (λ (a : Name) (b : Name). a ≢ b) p.1.name (map (λ (r : DeckRow). r.name) (map (row_made said) (sided_rows said)))
-    (All-map (λ (n : Name). p.1.name ≢ n) (λ (r : DeckRow). r.name) (map (row_made said) (sided_rows said)) (All-map (λ (r : DeckRow). p.1.name ≢ r.name) (row_made said) (sided_rows said) behind))
-    (pairs_map (λ (a : Name) (b : Name). a ≢ b) (λ (r : DeckRow). r.name) (map (row_made said) (sided_rows said)) (pairs_map (λ (a : DeckRow) (b : DeckRow). a.name ≢ b.name) (row_made said) (sided_rows said) rest))
+    AllPairs-cons (λ (a : Name) (b : Name). a ≢ b) p.1.name (map (λ (r : Row). r.name) (map (row_made said) (sided_rows said)))
+    (All-map (λ (n : Name). p.1.name ≢ n) (λ (r : Row). r.name) (map (row_made said) (sided_rows said)) (All-map (λ (r : Row). p.1.name ≢ r.name) (row_made said) (sided_rows said) behind))
+    (pairs_map (λ (a : Name) (b : Name). a ≢ b) (λ (r : Row). r.name) (map (row_made said) (sided_rows said)) (pairs_map (λ (a : Row) (b : Row). a.name ≢ b.name) (row_made said) (sided_rows said) rest))
 
-pub made_row_names : (said : Said) → IsSaid said → IsFine said → AllPairs (λ (a : Name) (b : Name). a ≢ b) ((deck_value said).objective_name ∷ map (λ (r : DeckRow). r.name) (deck_value said).rows)
+pub made_row_names : (said : Said) → IsSaid said → IsFine said → AllPairs (λ (a : Name) (b : Name). a ≢ b) ((deck_value said).objective_name ∷ map (λ (r : Row). r.name) (deck_value said).rows)
 made_row_names said is fine =
     let p : ℕ × RowSaid = fine.objective_row.0 in
     let all = numbered_apart said is.row_part in
     let behind : All (RowsApart p) (sided_rows said) = found_apart RowsApart turned (λ (q : ℕ × RowSaid). is_n q.1.kind) (enumerate_from 0 said.rows) p fine.objective_row.1 all in
     let rest : AllPairs RowsApart (sided_rows said) = AllPairs-filter RowsApart (λ (q : ℕ × RowSaid). not (is_n q.1.kind)) (enumerate_from 0 said.rows) all in
-    subst (λ (n : Name). AllPairs (λ (a : Name) (b : Name). a ≢ b) (n ∷ map (λ (r : DeckRow). r.name) (deck_value said).rows)) (sym (objective_name_is said p fine.objective_row.1))
+    subst (λ (n : Name). AllPairs (λ (a : Name) (b : Name). a ≢ b) (n ∷ map (λ (r : Row). r.name) (deck_value said).rows)) (sym (objective_name_is said p fine.objective_row.1))
     (with_rows said p behind rest)
 
 pub made_column_names : (said : Said) → IsSaid said → AllPairs (λ (a : ColumnValue) (b : ColumnValue). a.name ≢ b.name) (deck_value said).columns

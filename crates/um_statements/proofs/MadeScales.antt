@@ -6,9 +6,9 @@ use Rattle.std.proofs.lemmas.List.Elements.{All-nil, All-cons, All-append, All-f
 use Rattle.um_num.specs.declared.decimal.Decimal.{Decimal}
 use Rattle.um_model.specs.Values.{ColumnValue}
 use Rattle.um_model.specs.WellFormed.{IsMultipleOfTen, RowOfTens, ObjectiveOfTens, AtPlace}
-use Rattle.um_model.specs.declared.deck.Row.{Row as DeckRow}
-use Rattle.um_model.specs.declared.deck.Entry.{Entry as DeckEntry}
-use Rattle.um_model.specs.declared.deck.Arc.{Arc as DeckArc}
+use Rattle.um_model.specs.declared.deck.Row.{Row}
+use Rattle.um_model.specs.declared.deck.Entry.{Entry}
+use Rattle.um_model.specs.declared.deck.Arc.{Arc}
 use Rattle.um_statements.specs.declared.parts.EntryPart.{EntryPart}
 use Rattle.um_statements.specs.declared.parts.ArcPart.{ArcPart}
 use Rattle.um_statements.specs.Said.{Said, RowSaid, ColumnSaid}
@@ -81,9 +81,9 @@ row_down said is fine k d within some tens =
     = all_given (GoesDown scale) (entry_in p.0) said.columns
     (λ i c inside v at.
     let x : ColumnSaid = get_or said.columns i c in
-    let entries = unmapped (λ (y : ColumnValue). All (λ (e : DeckEntry). e.row ≡ k → IsMultipleOfTen e.value) y.entries) (column_made said) said.columns tens.entries i c inside in
-    let given = at_number (λ (q : ℕ × (ℕ × RowSaid)). ForSome (entry_made said x q) (λ (e : DeckEntry). e.row ≡ k → IsMultipleOfTen e.value)) (sided_rows said)
-    (given_all (λ (e : DeckEntry). e.row ≡ k → IsMultipleOfTen e.value) (entry_made said x) (enumerate_from 0 (sided_rows said)) entries) k d within in
+    let entries = unmapped (λ (y : ColumnValue). All (λ (e : Entry). e.row ≡ k → IsMultipleOfTen e.value) y.entries) (column_made said) said.columns tens.entries i c inside in
+    let given = at_number (λ (q : ℕ × (ℕ × RowSaid)). ForSome (entry_made said x q) (λ (e : Entry). e.row ≡ k → IsMultipleOfTen e.value)) (sided_rows said)
+    (given_all (λ (e : Entry). e.row ≡ k → IsMultipleOfTen e.value) (entry_made said x) (enumerate_from 0 (sided_rows said)) entries) k d within in
     ((entry_number (length said.rows) x (is.column_part.each i c inside) p.0 v at).normal, entry_tens said x k p v at given)) in
     let arcs : All (GoesDown scale) (arcs_in said p.0)
     = all_given (GoesDown scale) (λ (a : ArcPart). if nat_eq a.row p.0 then Some a.value else None) said.arcs
@@ -101,7 +101,7 @@ row_down said is fine k d within some tens =
         by true same e = same_number a b same
         by false same e = cc
 
-    entry_tens : (said : Said) (c : ColumnSaid) (k : ℕ) (p : ℕ × RowSaid) (v : Decimal) → entry_in p.0 c ≡ Some v → ForSome (entry_made said c (k, p)) (λ (e : DeckEntry). e.row ≡ k → IsMultipleOfTen e.value)
+    entry_tens : (said : Said) (c : ColumnSaid) (k : ℕ) (p : ℕ × RowSaid) (v : Decimal) → entry_in p.0 c ≡ Some v → ForSome (entry_made said c (k, p)) (λ (e : Entry). e.row ≡ k → IsMultipleOfTen e.value)
         → IsMultipleOfTen (times_ten v (row_scale said p.0 p.1))
     entry_tens said c k p v at given = by (is_zero v) refl
       where
@@ -109,11 +109,11 @@ row_down said is fine k d within some tens =
         by true zero_is = zero_multiple v (row_scale said p.0 p.1) zero_is
         by false zero_is = given (record { row = k; value = times_ten v (row_scale said p.0 p.1) }) (rw (at, zero_is) refl) refl
 
-pub made_least_scales : (said : Said) → IsSaid said → IsFine said → (row : ℕ) (r : DeckRow) → AtPlace (deck_value said).rows row r → 1 ≤ r.scale → ¬ RowOfTens (deck_value said) row r
+pub made_least_scales : (said : Said) → IsSaid said → IsFine said → (row : ℕ) (r : Row) → AtPlace (deck_value said).rows row r → 1 ≤ r.scale → ¬ RowOfTens (deck_value said) row r
 unfolding deck_value
 made_least_scales said is fine row r at some tens =
     let there = placed (λ k (p : ℕ × RowSaid). 1 ≤ row_scale said p.0 p.1 → RowOfTens (deck_value said) k (row_made said p) → ⊥) (row_made said) (sided_rows said) (row_down said is fine) row r at in
-    there.1 (subst (λ (x : DeckRow). 1 ≤ x.scale) there.2 some) (subst (RowOfTens (deck_value said) row) there.2 tens)
+    there.1 (subst (λ (x : Row). 1 ≤ x.scale) there.2 some) (subst (RowOfTens (deck_value said) row) there.2 tens)
 
 -- ---- the objective
 
@@ -137,7 +137,7 @@ made_least_scale said is fine some tens =
     = all_given (GoesDown scale) (λ (a : ArcPart). if nat_eq a.row q.0 then Some a.value else None) said.arcs
     (λ i a inside v at.
     let x : ArcPart = get_or said.arcs i a in
-    let given = given_all (λ (y : DeckArc). y.row ≡ None → IsMultipleOfTen y.value) (arc_made said) said.arcs tens.arcs i a inside in
+    let given = given_all (λ (y : Arc). y.row ≡ None → IsMultipleOfTen y.value) (arc_made said) said.arcs tens.arcs i a inside in
     let same : x.value ≡ v = same_value (nat_eq x.row q.0) x.value v at in
     subst (GoesDown scale) same ((is.arc_part.each i a inside).number.normal, subst (λ s. IsMultipleOfTen (times_ten x.value s)) scale_is (arc_tens said x given))) in
     least-scale (coefficients said q.0 ++ (arcs_in said q.0 ++ numbers_beside q.1)) (subst (λ n. 1 ≤ n) scale_is some)
@@ -149,7 +149,7 @@ made_least_scale said is fine some tens =
     same_value true x v e = cc
     same_value false x v e = cc
 
-    arc_tens : (said : Said) (a : ArcPart) → ForSome (arc_made said a) (λ (y : DeckArc). y.row ≡ None → IsMultipleOfTen y.value) → IsMultipleOfTen (times_ten a.value (objective_scale said))
+    arc_tens : (said : Said) (a : ArcPart) → ForSome (arc_made said a) (λ (y : Arc). y.row ≡ None → IsMultipleOfTen y.value) → IsMultipleOfTen (times_ten a.value (objective_scale said))
     arc_tens said a given = by (is_zero a.value) refl
       where
         by : (b : Bool) → is_zero a.value ≡ b → IsMultipleOfTen (times_ten a.value (objective_scale said))

@@ -5,7 +5,7 @@ use Rattle.std.proofs.lemmas.List.{length-map}
 use Rattle.std.proofs.lemmas.List.Elements.{All-map}
 use Rattle.um_model.specs.Values.{ColumnValue}
 use Rattle.um_model.specs.WellFormed.{IsSet, IsMember, HasTwoEnds, AtPlace}
-use Rattle.um_model.specs.declared.deck.Member.{Member as DeckMember}
+use Rattle.um_model.specs.declared.deck.Member.{Member}
 use Rattle.um_statements.specs.declared.parts.MemberPart.{MemberPart}
 use Rattle.um_statements.specs.declared.parts.Ends.{Ends}
 use Rattle.um_statements.specs.Said.{Said, ColumnSaid, SetSaid}
@@ -23,7 +23,7 @@ use Rattle.um_statements.proofs.MadeArcs.{same_arcs, is_same}
 
 -- ---- one member
 
-abbrev member_made : Said → SetSaid → MemberPart → DeckMember
+abbrev member_made : Said → SetSaid → MemberPart → Member
 member_made said s m = record { column = m.column; weight = weight_of said s m }
 
 member_is : (said : Said) (k : ℕ) (d : SetSaid) (i : ℕ) (e : MemberPart) → k < length said.sets → i < length (get_or said.sets k d).members → is_member said (get_or (get_or said.sets k d).members i e).column ≡ true
@@ -79,14 +79,14 @@ deck_set : (said : Said) → IsSaid said → IsFine said → (k : ℕ) (d : SetS
 deck_set said is fine k d within =
     let s : SetSaid = get_or said.sets k d in
     let rules = none_broken (set_rules said s) (fine.each_set k d within) in
-    let ms : List DeckMember = members_of said s in
+    let ms : List Member = members_of said s in
     let small = none_pass (λ (w : ℤ). is_above (2 ^ 31 * 10 ^ 6) (Some w)) (map (weight_of said s) s.members) rules.1.0 in
     record {
       some = some_length (length s.members) (length (by_weight ms)) rules.1.1.0 (length_sorted ms ∙ length-map s.members (member_made said s));
-      columns = pairs_sorted (λ (a : DeckMember) (b : DeckMember). a.column ≢ b.column) (λ a b apart same. apart (sym same)) ms
-          (pairs_map (λ (a : DeckMember) (b : DeckMember). a.column ≢ b.column) (member_made said s) s.members (is.set_part.each k d within).distinct);
+      columns = pairs_sorted (λ (a : Member) (b : Member). a.column ≢ b.column) (λ a b apart same. apart (sym same)) ms
+          (pairs_map (λ (a : Member) (b : Member). a.column ≢ b.column) (member_made said s) s.members (is.set_part.each k d within).distinct);
       weights = weights_rise ms
-          (pairs_map (λ (a : DeckMember) (b : DeckMember). a.weight ≢ b.weight) (member_made said s) s.members
+          (pairs_map (λ (a : Member) (b : Member). a.weight ≢ b.weight) (member_made said s) s.members
           (pairs_unmapped (λ (a : ℤ) (b : ℤ). a ≢ b) (weight_of said s) s.members (all_apart (map (weight_of said s) s.members) rules.1.1.1.0)));
       members = all_sorted (IsMember (deck_value said)) ms (All-map (IsMember (deck_value said)) (member_made said s) s.members (member_fits said is fine k d within small));
     }

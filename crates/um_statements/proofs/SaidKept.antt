@@ -4,7 +4,7 @@ use Rattle.std.specs.Option.{option_or}
 use Rattle.std.proofs.lemmas.List.{length_push}
 use Rattle.std.proofs.lemmas.List.Elements.{All-nil, All-head, All-tail}
 use Rattle.um_statements.specs.declared.parts.ArcPart.{ArcPart}
-use Rattle.um_statements.specs.Statements.{Name, Statement, Title, Sense, Row, Column, Entry, Side, Range, Bound, Set, Member, Arc}
+use Rattle.um_statements.specs.Statements.{Name, Statement, Title, Sense, RowTold, Column, EntryTold, Side, Range, Bound, Set, MemberTold, ArcTold}
 use Rattle.um_statements.specs.Said.{Said, RowSaid, ColumnSaid, nothing_said, collected, row_place, column_place}
 use Rattle.um_statements.specs.CallRules.{fault_of, faults_in, rules_of, with_statement, with_all, objective_place, change_rows, change_columns, change_last, with_bound}
 use Rattle.um_statements.specs.WellSaid.{HasNumbers, IsRowSaid, IsColumnSaid, IsSetSaid, IsArcSaid, AreColumns, AreSets, AreArcs, IsSaid}
@@ -51,8 +51,8 @@ pub said_next : (said : Said) (s : Statement) → HasNumbers s → fault_of said
 unfolding with_statement rules_of
 said_next said (Title name) numbers fine is = record { row_part = is.row_part; column_part = is.column_part; set_part = is.set_part; arc_part = is.arc_part }
 said_next said (Sense maximise) numbers fine is = record { row_part = is.row_part; column_part = is.column_part; set_part = is.set_part; arc_part = is.arc_part }
-said_next said (Row kind name) numbers fine is =
-    let rules = none_broken (rules_of said (Row kind name)) fine in
+said_next said (RowTold kind name) numbers fine is =
+    let rules = none_broken (rules_of said (RowTold kind name)) fine in
     let row : RowSaid = record { name = name; kind = kind; side = None; range = None } in
     record {
       row_part = rows_kept said.rows kind name rules.0 rules.1.0 is.row_part;
@@ -69,8 +69,8 @@ said_next said (Column name in_block) numbers fine is =
       set_part = more_sets (length said.rows) (length said.rows) (length said.columns) (length columns) said.sets (omega arith) (longer said.columns _) is.set_part;
       arc_part = more_arc_columns (objective_place said.rows) said.columns _ said.arcs is.arc_part;
     }
-said_next said (Entry row value) numbers fine is =
-    let rules = none_broken (rules_of said (Entry row value)) fine in
+said_next said (EntryTold row value) numbers fine is =
+    let rules = none_broken (rules_of said (EntryTold row value)) fine in
     let change : ColumnSaid → ColumnSaid = with_entry (row_place said.rows row) value in
     let others = with_columns said (change_last change said.columns) (length_last change said.columns) is in
     record {
@@ -104,16 +104,16 @@ said_next said (Set kind name reference) numbers fine is =
       set_part = sets_kept (length said.rows) (length said.columns) said.sets kind name (option_and_then (row_place said.rows) reference) (reference_within said.rows reference) rules.1.0 rules.1.1.0 is.set_part;
       arc_part = is.arc_part;
     }
-said_next said (Member column weight) numbers fine is =
-    let rules = none_broken (rules_of said (Member column weight)) fine in
+said_next said (MemberTold column weight) numbers fine is =
+    let rules = none_broken (rules_of said (MemberTold column weight)) fine in
     record {
       row_part = is.row_part;
       column_part = is.column_part;
       set_part = members_kept (length said.rows) (length said.columns) said.sets (column_place said.columns column) weight rules.0 (λ j at. place_within (λ (c : ColumnSaid). c.name) said.columns column j at) rules.1.0 rules.1.1.1.0 is.set_part;
       arc_part = is.arc_part;
     }
-said_next said (Arc row column value) numbers fine is =
-    let rules = none_broken (rules_of said (Arc row column value)) fine in
+said_next said (ArcTold row column value) numbers fine is =
+    let rules = none_broken (rules_of said (ArcTold row column value)) fine in
     record {
       row_part = is.row_part;
       column_part = is.column_part;

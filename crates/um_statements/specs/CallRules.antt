@@ -13,7 +13,7 @@ use Rattle.um_statements.specs.declared.parts.Ends.{Ends}
 use Rattle.um_statements.specs.declared.parts.EntryPart.{EntryPart}
 use Rattle.um_statements.specs.declared.parts.MemberPart.{MemberPart}
 use Rattle.um_statements.specs.declared.parts.ArcPart.{ArcPart}
-use Rattle.um_statements.specs.Statements.{Name, Statement, Title, Sense, Row, Column, Entry, Side, Range, Bound, Set, Member, Arc}
+use Rattle.um_statements.specs.Statements.{Name, Statement, Title, Sense, RowTold, Column, EntryTold, Side, Range, Bound, Set, MemberTold, ArcTold}
 use Rattle.um_statements.specs.Scaled.{times_ten, is_whole_at, is_within_at}
 use Rattle.um_statements.specs.Said.{Said, RowSaid, ColumnSaid, SetSaid, row_place, column_place, is_endless, low_set, high_set, threshold_set, makes_fall, makes_integer, makes_semi}
 use Rattle.um_model.specs.declared.limits.TheConstants.{MOST_ROW_LINES, MOST_ROWS, MOST_COLUMNS, MOST_SETS, MOST_ARC_COLUMNS, MOST_END, MOST_WEIGHT}
@@ -110,21 +110,21 @@ has_arc_at said row column = list_any (λ (a : ArcPart). is_at (row_place said.r
 abbrev pub has_kept_arc : Said → ℕ → Bool
 has_kept_arc said j = list_any (λ (a : ArcPart). nat_eq a.column j && not (is_zero a.value)) said.arcs
 
-abbrev pub arc_columns : Said → ℕ
-arc_columns said = count_by (has_kept_arc said) (range_with_len 0 (length said.columns))
+abbrev pub said_arc_columns : Said → ℕ
+said_arc_columns said = count_by (has_kept_arc said) (range_with_len 0 (length said.columns))
 
 -- ---- the rules of each call, in their order
 
 unfoldable pub rules_of : Said → Statement → List Rule
 rules_of said (Title name) = []
 rules_of said (Sense maximise) = []
-rules_of said (Row kind name) =
+rules_of said (RowTold kind name) =
     (has_row said name, TwiceRow)
     ∷ (is_full_of_rows said kind, TooMany) ∷ []
 rules_of said (Column name integer) =
     (has_column said name, TwiceColumn)
     ∷ (is_full_of_columns said, TooMany) ∷ []
-rules_of said (Entry row value) =
+rules_of said (EntryTold row value) =
     (not (has_row said row), UnknownRow)
     ∷ (has_entry said row, TwiceEntry) ∷ []
 rules_of said (Side row value) =
@@ -142,17 +142,17 @@ rules_of said (Set kind name reference) =
     (option_map_or (λ row. not (has_row said row)) reference false, UnknownRow)
     ∷ (has_set said name, TwiceSet)
     ∷ (nat_le MOST_SETS (length said.sets), TooMany) ∷ []
-rules_of said (Member column weight) =
+rules_of said (MemberTold column weight) =
     (not (has_column said column), UnknownColumn)
     ∷ (has_member said column, TwiceMember)
     ∷ (option_map_or (λ v. not (is_whole_at 6 v)) weight false, TooFine)
     ∷ (option_map_or (λ v. not (is_within_at MOST_WEIGHT 6 v)) weight false, TooLarge) ∷ []
-rules_of said (Arc row column value) =
+rules_of said (ArcTold row column value) =
     (not (has_row said row), UnknownRow)
     ∷ (not (has_column said column), UnknownColumn)
     ∷ (not (is_objective said row), ArcRow)
     ∷ (has_arc_at said row column, TwiceEntry)
-    ∷ (not (is_zero value) && option_map_or (λ j. not (has_kept_arc said j)) (column_place said.columns column) false && nat_le MOST_ARC_COLUMNS (arc_columns said), TooMany) ∷ []
+    ∷ (not (is_zero value) && option_map_or (λ j. not (has_kept_arc said j)) (column_place said.columns column) false && nat_le MOST_ARC_COLUMNS (said_arc_columns said), TooMany) ∷ []
 
 abbrev pub fault_of : Said → Statement → Option Fault
 fault_of said s = first_fault (rules_of said s)
@@ -194,15 +194,15 @@ bare_ends in_block = record { integer = in_block; semi = false; low = None; high
 unfoldable pub with_statement : Statement → Said → Said
 with_statement (Title name) said = record said { name = name }
 with_statement (Sense maximise) said = record said { maximise = maximise }
-with_statement (Row kind name) said = record said { rows = said.rows ++ record { name = name; kind = kind; side = None; range = None } ∷ [] }
+with_statement (RowTold kind name) said = record said { rows = said.rows ++ record { name = name; kind = kind; side = None; range = None } ∷ [] }
 with_statement (Column name in_block) said = record said { columns = said.columns ++ record { name = name; ends = bare_ends in_block; entries = [] } ∷ [] }
-with_statement (Entry row value) said = record said { columns = change_last (λ (c : ColumnSaid). record c { entries = c.entries ++ option_list (option_map (λ place. record { row = place; value = value }) (row_place said.rows row)) }) said.columns }
+with_statement (EntryTold row value) said = record said { columns = change_last (λ (c : ColumnSaid). record c { entries = c.entries ++ option_list (option_map (λ place. record { row = place; value = value }) (row_place said.rows row)) }) said.columns }
 with_statement (Side row value) said = record said { rows = change_rows row (λ r. record r { side = option_or r.side (Some value) }) said.rows }
 with_statement (Range row value) said = record said { rows = change_rows row (λ r. record r { range = option_or r.range (Some value) }) said.rows }
 with_statement (Bound kind column value) said = record said { columns = change_columns column (λ c. record c { ends = with_bound kind value c.ends }) said.columns }
 with_statement (Set kind name reference) said = record said { sets = said.sets ++ record { name = name; kind = kind; reference = option_and_then (row_place said.rows) reference; members = [] } ∷ [] }
-with_statement (Member column weight) said = record said { sets = change_last (λ (s : SetSaid). record s { members = s.members ++ option_list (option_map (λ place. record { column = place; weight = option_map (λ v. times_ten v 6) weight }) (column_place said.columns column)) }) said.sets }
-with_statement (Arc row column value) said = record said { arcs = said.arcs ++ option_list (option_and_then (λ i. option_map (λ j. record { row = i; column = j; value = value }) (column_place said.columns column)) (row_place said.rows row)) }
+with_statement (MemberTold column weight) said = record said { sets = change_last (λ (s : SetSaid). record s { members = s.members ++ option_list (option_map (λ place. record { column = place; weight = option_map (λ v. times_ten v 6) weight }) (column_place said.columns column)) }) said.sets }
+with_statement (ArcTold row column value) said = record said { arcs = said.arcs ++ option_list (option_and_then (λ i. option_map (λ j. record { row = i; column = j; value = value }) (column_place said.columns column)) (row_place said.rows row)) }
 
 -- ---- several statements
 

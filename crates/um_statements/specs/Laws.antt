@@ -2,7 +2,7 @@
 use Rattle.std.specs.Prelude.{◌≡◌, ℕ, false, Bool, List, [], ◌∷◌, ◌++◌, All, Option, None}
 use Rattle.um_num.specs.declared.decimal.Decimal.{Decimal}
 use Rattle.um_model.specs.Values.{DeckValue}
-use Rattle.um_model.specs.declared.deck.Arc.{Arc as DeckArc}
+use Rattle.um_model.specs.declared.deck.Arc.{Arc}
 use Rattle.um_model.specs.WellFormed.{IsRow, IsDeck}
 use Rattle.um_statements.specs.declared.parts.BoundKind.{BoundKind}
 use Rattle.um_statements.specs.Statements.{Statement}
@@ -22,12 +22,12 @@ abbrev pub CollectedLaw : Type 0
 CollectedLaw = (told : List Statement) → faults_in nothing_said told ≡ None → collected told ≡ with_all told nothing_said
 
 -- the same for a maker that goes on: behind what was told without a fault, more statements without a fault
-pub record GoesOn (before more : List Statement) : Type 0 where
+pub record TakesMore (before more : List Statement) : Type 0 where
   pub same : collected (before ++ more) ≡ with_all more (collected before)
   pub unbroken : faults_in nothing_said (before ++ more) ≡ None
 
 abbrev pub MoreLaw : Type 0
-MoreLaw = (before more : List Statement) → faults_in nothing_said before ≡ None → faults_in (collected before) more ≡ None → GoesOn before more
+MoreLaw = (before more : List Statement) → faults_in nothing_said before ≡ None → faults_in (collected before) more ≡ None → TakesMore before more
 
 -- a row that breaks no rule is a row of a deck
 abbrev pub MadeRowLaw : Type 0
@@ -38,7 +38,7 @@ MadeRowLaw = (said : Said) (p : ℕ × RowSaid) → is_n p.1.kind ≡ false → 
 -- a well-formed deck whose arcs are all in the objective
 pub record IsDeckOfObjective (d : DeckValue) : Type 0 where
   pub formed : IsDeck d
-  pub objective_arcs : All (λ (a : DeckArc). a.row ≡ None) d.arcs
+  pub objective_arcs : All (λ (a : Arc). a.row ≡ None) d.arcs
 
 -- what is said keeps its form: of nothing it holds, and each statement without a fault keeps it
 pub record SaidLaw : Type 0 where

@@ -4,12 +4,12 @@ use Rattle.std.specs.List.{filter_map, filter, find, enumerate_from}
 use Rattle.std.specs.Option.{option_and_then, option_map_or}
 use Rattle.um_num.specs.declared.decimal.Decimal.{Decimal}
 use Rattle.um_model.specs.Values.{DeckValue, ColumnValue, SetValue}
-use Rattle.um_model.specs.declared.deck.Row.{Row as DeckRow}
-use Rattle.um_model.specs.declared.deck.Entry.{Entry as DeckEntry}
+use Rattle.um_model.specs.declared.deck.Row.{Row}
+use Rattle.um_model.specs.declared.deck.Entry.{Entry}
 use Rattle.um_model.specs.declared.deck.Kind.{Kind}
 use Rattle.um_model.specs.declared.deck.Kind.TheVariants.{Continuous, Integer, Semi}
-use Rattle.um_model.specs.declared.deck.Member.{Member as DeckMember}
-use Rattle.um_model.specs.declared.deck.Arc.{Arc as DeckArc}
+use Rattle.um_model.specs.declared.deck.Member.{Member}
+use Rattle.um_model.specs.declared.deck.Arc.{Arc}
 use Rattle.um_statements.specs.declared.parts.RowKind.{RowKind}
 use Rattle.um_statements.specs.declared.parts.RowKind.TheVariants.{N, L, G, E}
 use Rattle.um_statements.specs.declared.parts.End.{End}
@@ -73,7 +73,7 @@ side_at r scale = times_ten (unwrap_or r.side nothing) scale
 abbrev pub range_at : RowSaid → ℕ → Option ℤ
 range_at r scale = option_map (λ v. times_ten v scale) r.range
 
-abbrev pub row_made : Said → ℕ × RowSaid → DeckRow
+abbrev pub row_made : Said → ℕ × RowSaid → Row
 row_made said p =
     let scale = row_scale said p.0 p.1 in
     record {
@@ -123,7 +123,7 @@ abbrev pub kind_of : Ends → Kind
 kind_of ends = if ends.semi then Semi (unwrap_or (threshold ends) (pos 0)) else if ends.integer then Integer else Continuous
 
 -- what the column has in the k-th row of the deck, scaled; 0 is not kept
-abbrev pub entry_made : Said → ColumnSaid → ℕ × (ℕ × RowSaid) → Option DeckEntry
+abbrev pub entry_made : Said → ColumnSaid → ℕ × (ℕ × RowSaid) → Option Entry
 entry_made said c p = option_and_then (λ v. if is_zero v then None else Some (record { row = p.0; value = times_ten v (row_scale said p.1.0 p.1.1) })) (entry_in p.1.0 c)
 
 abbrev pub column_made : Said → ColumnSaid → ColumnValue
@@ -143,15 +143,15 @@ abbrev pub weight_of : Said → SetSaid → MemberPart → ℤ
 weight_of said s m = option_map_or (λ place. times_ten (unwrap_or (option_and_then (entry_in place) (slice_get said.columns m.column)) nothing) 6) s.reference (unwrap_or m.weight (pos 0))
 
 -- a member before the first of a greater weight
-abbrev pub put_by_weight : DeckMember → List DeckMember → List DeckMember
+abbrev pub put_by_weight : Member → List Member → List Member
 put_by_weight m [] = m ∷ []
 put_by_weight m (x ∷ xs) = if int_lt m.weight x.weight then m ∷ x ∷ xs else x ∷ put_by_weight m xs
 
-abbrev pub by_weight : List DeckMember → List DeckMember
+abbrev pub by_weight : List Member → List Member
 by_weight [] = []
 by_weight (m ∷ ms) = put_by_weight m (by_weight ms)
 
-abbrev pub members_of : Said → SetSaid → List DeckMember
+abbrev pub members_of : Said → SetSaid → List Member
 members_of said s = map (λ (m : MemberPart). record { column = m.column; weight = weight_of said s m }) s.members
 
 abbrev pub set_made : Said → SetSaid → SetValue
@@ -160,7 +160,7 @@ set_made said s = record { name = s.name; kind = s.kind; members = by_weight (me
 -- ---- arcs
 
 -- an arc of the objective; a zero arc is not kept
-abbrev pub arc_made : Said → ArcPart → Option DeckArc
+abbrev pub arc_made : Said → ArcPart → Option Arc
 arc_made said a = if is_zero a.value then None else Some (record { row = None; column = a.column; value = for_minimising said.maximise (times_ten a.value (objective_scale said)) })
 
 -- ---- all

@@ -14,7 +14,7 @@ use Rattle.um_statements.specs.declared.parts.Ends.{Ends}
 use Rattle.um_statements.specs.declared.parts.EntryPart.{EntryPart}
 use Rattle.um_statements.specs.declared.parts.MemberPart.{MemberPart}
 use Rattle.um_statements.specs.declared.parts.ArcPart.{ArcPart}
-use Rattle.um_statements.specs.Statements.{Name, Statement, Title, Sense, Row, Column, Entry, Side, Range, Bound, Set, Member, Arc}
+use Rattle.um_statements.specs.Statements.{Name, Statement, Title, Sense, RowTold, Column, EntryTold, Side, Range, Bound, Set, MemberTold, ArcTold}
 use Rattle.um_statements.specs.Scaled.{times_ten}
 
 -- ---- the record
@@ -86,7 +86,7 @@ range_of name (Range row value) = if bytes_eq row name then Some value else None
 range_of name other = None
 
 abbrev pub row_of : List Statement → Statement → Option RowSaid
-row_of told (Row kind name) = Some (record { name = name; kind = kind; side = first_of (side_of name) told; range = first_of (range_of name) told })
+row_of told (RowTold kind name) = Some (record { name = name; kind = kind; side = first_of (side_of name) told; range = first_of (range_of name) told })
 row_of told other = None
 
 -- ---- what a bound sets
@@ -167,7 +167,7 @@ ends_of in_block bounds = record {
 -- ---- names
 
 abbrev pub named_row : Statement → Option Name
-named_row (Row kind name) = Some name
+named_row (RowTold kind name) = Some name
 named_row other = None
 
 abbrev pub named_column : Statement → Option Name
@@ -189,7 +189,7 @@ column_head (Column name in_block) = Some (name, in_block)
 column_head other = None
 
 abbrev pub entry_of : List Name → Statement → Option EntryPart
-entry_of rows (Entry row value) = option_map (λ place. record { row = place; value = value }) (place_in rows row)
+entry_of rows (EntryTold row value) = option_map (λ place. record { row = place; value = value }) (place_in rows row)
 entry_of rows other = None
 
 -- a column with all bounds on it
@@ -207,7 +207,7 @@ set_head rows (Set kind name reference) = Some (name, kind, option_and_then (pla
 set_head rows other = None
 
 abbrev pub member_of : List Name → Statement → Option MemberPart
-member_of columns (Member column weight) = option_map (λ place. record { column = place; weight = option_map (λ v. times_ten v 6) weight }) (place_in columns column)
+member_of columns (MemberTold column weight) = option_map (λ place. record { column = place; weight = option_map (λ v. times_ten v 6) weight }) (place_in columns column)
 member_of columns other = None
 
 abbrev pub set_of : (Name × SetKind × Option ℕ) × List MemberPart → SetSaid
@@ -218,7 +218,7 @@ abbrev pub sets_of : List Name → List Name → List Statement → List SetSaid
 sets_of rows columns told = map set_of (grouped (set_head rows) (member_of columns) told)
 
 abbrev pub arc_of : List Name → List Name → Statement → Option ArcPart
-arc_of rows columns (Arc row column value) = option_and_then (λ i. option_map (λ j. record { row = i; column = j; value = value }) (place_in columns column)) (place_in rows row)
+arc_of rows columns (ArcTold row column value) = option_and_then (λ i. option_map (λ j. record { row = i; column = j; value = value }) (place_in columns column)) (place_in rows row)
 arc_of rows columns other = None
 
 -- ---- all

@@ -12,12 +12,12 @@ Name = List ℕ
 pub data Statement : Type 0 where
   Title : Name → Statement
   Sense : (maximise : Bool) → Statement
-  Row : RowKind → Name → Statement
+  RowTold : RowKind → Name → Statement
   Column : Name → (integer : Bool) → Statement
-  Entry : (row : Name) → Decimal → Statement
+  EntryTold : (row : Name) → Decimal → Statement
   Side : (row : Name) → Decimal → Statement
   Range : (row : Name) → Decimal → Statement
   Bound : BoundKind → (column : Name) → Option Decimal → Statement
   Set : SetKind → Name → (reference : Option Name) → Statement
-  Member : (column : Name) → (weight : Option Decimal) → Statement
-  Arc : (row column : Name) → Decimal → Statement
+  MemberTold : (column : Name) → (weight : Option Decimal) → Statement
+  ArcTold : (row column : Name) → Decimal → Statement

@@ -11,25 +11,25 @@ use Rattle.um_statements.specs.declared.parts.Ends.{Ends}
 use Rattle.um_statements.specs.declared.parts.EntryPart.{EntryPart}
 use Rattle.um_statements.specs.declared.parts.MemberPart.{MemberPart}
 use Rattle.um_statements.specs.declared.parts.ArcPart.{ArcPart}
-use Rattle.um_statements.specs.Statements.{Name, Statement, Entry, Side, Range, Bound, Member, Arc}
+use Rattle.um_statements.specs.Statements.{Name, Statement, EntryTold, Side, Range, Bound, MemberTold, ArcTold}
 use Rattle.um_statements.specs.Said.{Said, RowSaid, ColumnSaid, SetSaid}
-use Rattle.um_statements.specs.Scaled.{IsSmall}
+use Rattle.um_statements.specs.Scaled.{IsShortDecimal}
 use Rattle.um_statements.specs.CallRules.{is_n, is_zero, objective_place}
 use Rattle.um_statements.specs.Made.{finite}
 
 -- a number that a maker may be told: in normal form, and not too wide
 pub record IsNumber (v : Decimal) : Type 0 where
   pub normal : IsNormal v
-  pub small : IsSmall v
+  pub small : IsShortDecimal v
 
 -- a statement whose numbers are such
 abbrev pub HasNumbers : Statement → Type 0
-HasNumbers (Entry row value) = IsNumber value
+HasNumbers (EntryTold row value) = IsNumber value
 HasNumbers (Side row value) = IsNumber value
 HasNumbers (Range row value) = IsNumber value
 HasNumbers (Bound kind column value) = ForSome value IsNumber
-HasNumbers (Member column weight) = ForSome weight IsNumber
-HasNumbers (Arc row column value) = IsNumber value
+HasNumbers (MemberTold column weight) = ForSome weight IsNumber
+HasNumbers (ArcTold row column value) = IsNumber value
 HasNumbers other = Unit {0}
 
 -- ---- rows

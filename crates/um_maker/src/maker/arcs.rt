@@ -17,7 +17,7 @@ impl DeckMaker {
     ghost use Rattle.um_statements.specs.CallRules.{has_kept_arc, is_at, objective_place, with_statement};
     ghost use Rattle.um_statements.specs.Tells.{Tells};
     ghost use Rattle.um_statements.specs.Said.{row_place, column_place};
-    ghost use Rattle.um_statements.specs.Statements.{Arc};
+    ghost use Rattle.um_statements.specs.Statements.{ArcTold};
 
     /// Adds the value times the square of a column to a row; 0 is told and not kept by the deck.
     ///
@@ -25,7 +25,7 @@ impl DeckMaker {
     /// would be the first arc other than 0 of a 65th column; `Memory`.
     pub fn arc(&mut self, row: &[u8], column: &[u8], value: &Decimal) -> Result<(), Fault>
         requires number { IsNumber value.now }
-        ensures { Tells (Arc row.now column.now value.now) self.old result self.new }
+        ensures { Tells (ArcTold row.now column.now value.now) self.old result self.new }
     {
         let row_at = self.known_row(row)?;
         let column_at = self.known_column(column)?;
@@ -109,7 +109,7 @@ impl DeckMaker {
         requires column_within { column_at < MOST_COLUMNS }
         requires number { IsNumber value.now }
         requires allowed { first_fault (arc_rules self.old row_at column_at value.now) ≡ None }
-        ensures ok { OnOk result (self.new ≡ with_statement (Arc row.now column.now value.now) self.old) }
+        ensures ok { OnOk result (self.new ≡ with_statement (ArcTold row.now column.now value.now) self.old) }
         ensures err { OnErr result (self.new ≡ self.old) }
     {
         let adds = self.adds_column(column_at, value);

@@ -4,7 +4,7 @@ ghost use Rattle.std.specs.Prelude.{◌≡◌, ◌<◌, ◌^◌, nat_le, unsigne
 ghost use Rattle.std.specs.Option.{ForSome, option_copied};
 ghost use Rattle.um_num.specs.declared.decimal.Decimal.{Decimal as Number};
 ghost use Rattle.um_statements.specs.Said.{is_endless, end_of, low_set, high_set, threshold_set, makes_fall, makes_integer, makes_semi, is_below_zero};
-ghost use Rattle.um_statements.specs.Scaled.{IsSmall, times_ten};
+ghost use Rattle.um_statements.specs.Scaled.{IsShortDecimal, times_ten};
 ghost use Rattle.um_statements.specs.CallRules.{first_fault, with_bound};
 ghost use Rattle.um_statements.specs.WellSaid.{IsNumber};
 ghost use Rattle.um_maker.specs.Makers.{value_rules};
@@ -108,7 +108,7 @@ fn end_of(kind: BoundKind, value: Option<&Decimal>) -> Result<End, Fault>
 
 /// Whether a bound's value, which is whole in thousandths, is infinite.
 fn is_endless(kind: BoundKind, value: &Decimal) -> bool
-    requires small { IsSmall value.now }
+    requires small { IsShortDecimal value.now }
     requires whole { pos 0 ≤ℤ (value.now.power +ℤ pos 3) }
     ensures { result ≡ is_endless kind value.now }
 {
@@ -120,7 +120,7 @@ fn is_endless(kind: BoundKind, value: &Decimal) -> bool
 }
 
 fn is_huge(value: &Decimal) -> bool
-    requires small { IsSmall value.now }
+    requires small { IsShortDecimal value.now }
     requires whole { pos 0 ≤ℤ (value.now.power +ℤ pos 3) }
     ensures { result ≡ nat_le (10 ^ 23) (unsigned_abs (times_ten value.now 3)) }
 {

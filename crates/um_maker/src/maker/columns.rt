@@ -15,7 +15,7 @@ impl DeckMaker {
     ghost use Rattle.um_statements.specs.CallRules.{has_column, is_full_of_columns, last_has, holds_row, with_statement};
     ghost use Rattle.um_statements.specs.Tells.{Tells};
     ghost use Rattle.um_statements.specs.Said.{ColumnSaid, row_place, column_place};
-    ghost use Rattle.um_statements.specs.Statements.{Column, Entry};
+    ghost use Rattle.um_statements.specs.Statements.{Column, EntryTold};
     ghost use Rattle.um_statements.specs.WellSaid.{IsNumber};
 
     #[tactic(auto, using(crate::proofs::ColumnSteps::place_of_column))]
@@ -84,7 +84,7 @@ impl DeckMaker {
     pub fn entry(&mut self, row: &[u8], value: &Decimal) -> Result<(), Fault>
         requires some { 0 < length self.old.columns }
         requires number { IsNumber value.now }
-        ensures { Tells (Entry row.now value.now) self.old result self.new }
+        ensures { Tells (EntryTold row.now value.now) self.old result self.new }
     {
         match self.row_place(row) {
             Some(place) => {
@@ -114,7 +114,7 @@ impl DeckMaker {
         requires within { place < MOST_ROW_LINES }
         requires number { IsNumber value.now }
         requires new { last_has (λ (c : ColumnSaid). holds_row place c.entries) self.old.columns ≡ false }
-        ensures ok { OnOk result (self.new ≡ with_statement (Entry row.now value.now) self.old) }
+        ensures ok { OnOk result (self.new ≡ with_statement (EntryTold row.now value.now) self.old) }
         ensures err { OnErr result (self.new ≡ self.old) }
     {
         let part = EntryPart {

@@ -23,7 +23,7 @@ impl DeckMaker {
     ghost use Rattle.um_statements.specs.CallRules.{has_row, has_set, last_has, with_statement};
     ghost use Rattle.um_statements.specs.Tells.{Tells, wants_weight};
     ghost use Rattle.um_statements.specs.Said.{SetSaid, row_place, column_place};
-    ghost use Rattle.um_statements.specs.Statements.{Set, Member};
+    ghost use Rattle.um_statements.specs.Statements.{Set, MemberTold};
 
     /// Begins a set. Its members' weights are what their columns have in the reference row, or are told.
     /// Faults: `UnknownRow`; `TwiceSet`; `TooMany` behind 256 sets; `Memory`.
@@ -108,7 +108,7 @@ impl DeckMaker {
     pub fn member(&mut self, column: &[u8], weight: Option<&Decimal>) -> Result<(), Fault>
         requires needed { wants_weight self.old ≡ Some (is_some weight) }
         requires number { ForSome (option_copied weight) IsNumber }
-        ensures { Tells (Member column.now (option_copied weight.entry)) self.old result self.new }
+        ensures { Tells (MemberTold column.now (option_copied weight.entry)) self.old result self.new }
     {
         match self.column_place(column) {
             Some(place) => {
@@ -147,7 +147,7 @@ impl DeckMaker {
         requires fits { first_fault (weight_rules (option_copied weight)) ≡ None }
         requires millionths { millionths ≡ option_map (λ v. times_ten v 6) (option_copied weight) }
         requires new { last_has (λ (s : SetSaid). list_any (λ (m : MemberSaid). nat_eq place m.column) s.members) self.old.sets ≡ false }
-        ensures ok { OnOk result (self.new ≡ with_statement (Member column.now (option_copied weight.entry)) self.old) }
+        ensures ok { OnOk result (self.new ≡ with_statement (MemberTold column.now (option_copied weight.entry)) self.old) }
         ensures err { OnErr result (self.new ≡ self.old) }
     {
         let part = MemberPart {

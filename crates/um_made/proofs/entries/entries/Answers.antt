@@ -2,7 +2,7 @@ use Rattle.std.proofs.Common.{◌≡◌, ◌+◌, FitsSigned, w64, rules, List, 
 use Rattle.std.specs.List.{enumerate_from}
 use Rattle.std.proofs.lemmas.Int.{to_z-of_z}
 use Rattle.um_num.specs.Listed.{Listed}
-use Rattle.um_model.specs.declared.deck.Entry.{Entry as DeckEntry}
+use Rattle.um_model.specs.declared.deck.Entry.{Entry}
 use Rattle.um_made.specs.ColumnWords.{entry_of}
 use Rattle.um_made.proofs.ArcSteps.{no_sided_row, entry_kept, entry_zero, entry_none}
 use Rattle.um_made.proofs.entries.entries.Goals as goal
@@ -17,9 +17,9 @@ loop-number-preserved-then-is_zero c =
 
 pub loop-number-preserved : goal.loop-number-preserved
 loop-number-preserved c =
-    let all : List DeckEntry = filter_map (entry_of c.args.slots.now) (enumerate_from 0 c.args.rows.now) in
-    let items = ap (λ (l : Listed DeckEntry). l.items) c.in_ok-push.ensures.ok in
+    let all : List Entry = filter_map (entry_of c.args.slots.now) (enumerate_from 0 c.args.rows.now) in
+    let items = ap (λ (l : Listed Entry). l.items) c.in_ok-push.ensures.ok in
     let fits : FitsSigned w64 c.scaled.result = search rules in
-    subst (λ (zs : List DeckEntry). zs ++ filter_map (entry_of c.args.slots.now) (enumerate_from (c.loop-number.number + 1) (drop (c.loop-number.number + 1) c.args.rows.now)) ≡ all) (sym items)
+    subst (λ (zs : List Entry). zs ++ filter_map (entry_of c.args.slots.now) (enumerate_from (c.loop-number.number + 1) (drop (c.loop-number.number + 1) c.args.rows.now)) ≡ all) (sym items)
     (entry_kept c.args.slots.now c.args.rows.now c.loop-number.number no_sided_row c.loop-number-test.true c.loop-number.list.items all _ c.in-Some.value c.in-Some.is (sym c.is_zero.ensures ∙ c.if-is_zero.false)
     (ap (λ (z : ℤ). record { row = c.loop-number.number; value = z }) (simp to_z-of_z c.scaled.ensures.value)) c.loop-number.invariant)

@@ -1,7 +1,7 @@
 use Rattle.std.proofs.Common.{◌≡◌, ◌∙◌, None, Some, sym, ap, subst}
 use Rattle.um_num.specs.Listed.{Listed}
 use Rattle.um_statements.specs.declared.parts.ArcPart.{ArcPart}
-use Rattle.um_statements.specs.Statements.{Arc}
+use Rattle.um_statements.specs.Statements.{ArcTold}
 use Rattle.um_statements.specs.Said.{Said, row_place, column_place}
 use Rattle.um_statements.specs.CallRules.{first_fault}
 use Rattle.um_maker.specs.Makers.{arc_rules, adds_column}
@@ -29,7 +29,7 @@ invariant_of-self-then-adds c =
     let column = subst (λ (s : Said). column_place s.columns c.args.column.now ≡ Some c.args.column_at) (sym c.self.view_is) c.requires.column in
     let allowed = subst (λ (s : Said). first_fault (arc_rules s c.args.row_at c.args.column_at c.args.value.now) ≡ None) (sym c.self.view_is) c.requires.allowed in
     let adds = subst (λ (s : Said). c.adds_column-adds.result ≡ adds_column s c.args.column_at c.args.value.now) (sym c.self.view_is) c.adds_column-adds.ensures in
-    kept_by old _ (Arc c.args.row.now c.args.column.now c.args.value.now) _ _ _ _ _ _ c.self.invariant c.requires.number (known_rules old c.args.row.now c.args.column.now c.args.value.now c.args.row_at c.args.column_at row column ∙ allowed)
+    kept_by old _ (ArcTold c.args.row.now c.args.column.now c.args.value.now) _ _ _ _ _ _ c.self.invariant c.requires.number (known_rules old c.args.row.now c.args.column.now c.args.value.now c.args.row_at c.args.column_at row column ∙ allowed)
     (arc_pushed old c.args.row.now c.args.column.now c.args.value.now c.args.row_at c.args.column_at _ row column (ap (λ (l : Listed ArcPart). l.items) c.in_ok-push.ensures.ok))
     (record { first_is = same_place _; sided_is = nothing_more _; curved_is = one_column old c.args.row.now c.args.column.now c.args.value.now c.args.column_at _ column (sym adds ∙ c.if-adds.true) })
 
@@ -40,6 +40,6 @@ invariant_of-self-else-adds c =
     let column = subst (λ (s : Said). column_place s.columns c.args.column.now ≡ Some c.args.column_at) (sym c.self.view_is) c.requires.column in
     let allowed = subst (λ (s : Said). first_fault (arc_rules s c.args.row_at c.args.column_at c.args.value.now) ≡ None) (sym c.self.view_is) c.requires.allowed in
     let adds = subst (λ (s : Said). c.adds_column-adds.result ≡ adds_column s c.args.column_at c.args.value.now) (sym c.self.view_is) c.adds_column-adds.ensures in
-    kept_by old _ (Arc c.args.row.now c.args.column.now c.args.value.now) _ _ _ _ _ _ c.self.invariant c.requires.number (known_rules old c.args.row.now c.args.column.now c.args.value.now c.args.row_at c.args.column_at row column ∙ allowed)
+    kept_by old _ (ArcTold c.args.row.now c.args.column.now c.args.value.now) _ _ _ _ _ _ c.self.invariant c.requires.number (known_rules old c.args.row.now c.args.column.now c.args.value.now c.args.row_at c.args.column_at row column ∙ allowed)
     (arc_pushed old c.args.row.now c.args.column.now c.args.value.now c.args.row_at c.args.column_at _ row column (ap (λ (l : Listed ArcPart). l.items) c.in_ok-push.ensures.ok))
     (record { first_is = same_place _; sided_is = nothing_more _; curved_is = no_column old c.args.row.now c.args.column.now c.args.value.now c.args.column_at _ column (sym adds ∙ c.if-adds.false) })

@@ -4,7 +4,7 @@ use Rattle.um_statements.specs.declared.parts.EntryPart.{EntryPart}
 use Rattle.um_statements.specs.Said.{Said, ColumnSaid, row_place}
 use Rattle.um_maker.specs.contracts.maker.DeckMaker.{the_view}
 use Rattle.um_maker.proofs.EntrySteps.{entry_told, entry_refused, on_ok, on_err}
-use Rattle.um_statements.specs.Statements.{Entry}
+use Rattle.um_statements.specs.Statements.{EntryTold}
 use Rattle.um_made.specs.Views.{column_said}
 use Rattle.um_statements.specs.CallRules.{last_has, holds_row}
 use Rattle.um_maker.specs.NamedLists.{with_item}
@@ -30,7 +30,7 @@ invariant_of-self c =
     let place = subst (λ (s : Said). row_place s.rows c.args.row.now ≡ Some c.args.place) (sym c.self.view_is) c.requires.place in
     let fresh = subst (λ (s : Said). last_has (λ (k : ColumnSaid). holds_row c.args.place k.entries) s.columns ≡ false) (sym c.self.view_is) c.requires.new in
     let told : OnOk c.push.result (IsMaker new c.self.inside.objective c.self.inside.sided_rows c.self.inside.arc_columns)
-    = on_ok c.push.result (λ pushed. kept_as old new (Entry c.args.row.now c.args.value.now) _ _ _ c.self.invariant c.requires.number (entry_allowed old c.args.row.now c.args.value.now c.args.place place fresh)
+    = on_ok c.push.result (λ pushed. kept_as old new (EntryTold c.args.row.now c.args.value.now) _ _ _ c.self.invariant c.requires.number (entry_allowed old c.args.row.now c.args.value.now c.args.place place fresh)
     (entry_told old c.args.row.now c.args.value.now c.args.place c.self.inside.columns c.len-last.result c.at_mut.result.now _ refl place c.len-last.ensures c.at_mut.ensures.value refl (ap (λ (l : Listed EntryPart). l.items) pushed)) refl refl refl) c.push.ensures.ok in
     let refused : OnErr c.push.result (IsMaker new c.self.inside.objective c.self.inside.sided_rows c.self.inside.arc_columns)
     = on_err c.push.result (λ kept. subst (λ (columns : List ColumnSaid). IsMaker (record old { columns = columns }) c.self.inside.objective c.self.inside.sided_rows c.self.inside.arc_columns)

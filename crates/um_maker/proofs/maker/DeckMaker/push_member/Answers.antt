@@ -3,7 +3,7 @@ use Rattle.std.specs.List.{list_any}
 use Rattle.std.specs.Option.{option_copied}
 use Rattle.um_num.specs.Listed.{Listed}
 use Rattle.um_statements.specs.declared.parts.MemberPart.{MemberPart}
-use Rattle.um_statements.specs.Statements.{Member}
+use Rattle.um_statements.specs.Statements.{MemberTold}
 use Rattle.um_statements.specs.Said.{Said, SetSaid, column_place}
 use Rattle.um_statements.specs.CallRules.{last_has}
 use Rattle.um_maker.specs.Makers.{IsMaker}
@@ -33,7 +33,7 @@ invariant_of-self c =
     let place = subst (λ (s : Said). column_place s.columns c.args.column.now ≡ Some c.args.place) (sym c.self.view_is) c.requires.place in
     let fresh = subst (λ (s : Said). last_has (λ (k : SetSaid). list_any (λ (m : MemberPart). nat_eq c.args.place m.column) k.members) s.sets ≡ false) (sym c.self.view_is) c.requires.new in
     let told : OnOk c.push.result (IsMaker new c.self.inside.objective c.self.inside.sided_rows c.self.inside.arc_columns)
-    = on_ok c.push.result (λ pushed. kept_as old new (Member c.args.column.now (option_copied c.args.weight)) _ _ _ c.self.invariant c.requires.number
+    = on_ok c.push.result (λ pushed. kept_as old new (MemberTold c.args.column.now (option_copied c.args.weight)) _ _ _ c.self.invariant c.requires.number
     (new_member old c.args.column.now (option_copied c.args.weight) c.args.place place fresh ∙ c.requires.fits)
     (member_told old c.args.column.now (option_copied c.args.weight) c.args.place c.self.inside.sets c.len-last.result c.at_mut.result.now _ refl place c.len-last.ensures c.at_mut.ensures.value refl refl
     (ap (λ (l : Listed MemberPart). l.items) pushed ∙ ap (λ (w : Option ℤ). c.at_mut.result.now.members.items ++ record { column = c.args.place; weight = w } ∷ []) c.requires.millionths)) refl refl refl) c.push.ensures.ok in
