@@ -12,6 +12,7 @@ use Rattle.um_model.specs.declared.verdict.Reason.{Reason}
 use Rattle.um_model.specs.declared.verdict.Reason.TheVariants as reason
 use Rattle.um_model.specs.declared.verdict.Verdict.{Verdict}
 use Rattle.um_model.specs.declared.verdict.Verdict.TheVariants.{Yes}
+use Rattle.um_model.specs.declared.limits.TheConstants.{MOST_TOLERANCE, MULTIPLIER_SIZE}
 use Rattle.um_check.specs.Bounds.{least_of, told}
 use Rattle.um_check.specs.declared.bound.LeastBound.{LeastBound}
 
@@ -20,12 +21,12 @@ use Rattle.um_check.specs.declared.bound.LeastBound.{LeastBound}
 -- the tolerances with which a leaf may be compared
 pub record IsTolerance (t : ℤ) : Type 0 where
   pub least : pos 0 ≤ℤ t
-  pub most : t ≤ℤ pos (10 ^ 9)
+  pub most : t ≤ℤ MOST_TOLERANCE
 
 -- the value of a box that is not void, under multipliers that may be used
 pub record LeafValueIs (d : DeckValue) (b : BoxValue) (y : MultipliersValue) (value : ℤ) : Type 0 where
   pub full : ¬ IsVoid d b
-  pub small : AreBelow (2 ^ 40) y
+  pub small : AreBelow MULTIPLIER_SIZE y
   pub y0 : pos 0 ≤ℤ y.y0
   pub value_is : leaf_value d b y ≡ Value value
   pub size : unsigned_abs value < 2 ^ 126
@@ -33,7 +34,7 @@ pub record LeafValueIs (d : DeckValue) (b : BoxValue) (y : MultipliersValue) (va
 -- the first reason for which there is no such value
 abbrev pub IsUnusable : DeckValue → BoxValue → MultipliersValue → Reason → Type 0
 IsUnusable d b y why = (place : ℕ) →
-    First (¬ IsVoid d b) (by_node place reason.NotVoid) (First (AreBelow (2 ^ 40) y) (by_node place reason.Wide)
+    First (¬ IsVoid d b) (by_node place reason.NotVoid) (First (AreBelow MULTIPLIER_SIZE y) (by_node place reason.Wide)
     (First (SignHolds d b y) (by_node place reason.Sign) (λ v. ⊥))) (by_node place why)
 
 -- ---- nodes

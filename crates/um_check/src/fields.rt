@@ -5,10 +5,8 @@ ghost use Rattle.um_model.specs.Accepted.{ToleranceHolds, WhyGoes, FieldsGo, Fie
 ghost use Rattle.um_model.specs.AnswerValues.{plain_answer};
 
 use um_deck::Deck;
+use um_model::limits::MOST_TOLERANCE;
 use um_model::{Answer, AnswerKind, Why};
-
-/// The largest tolerance, in thousandths.
-const LARGEST: i64 = 1_000_000_000;
 
 /// Whether the deck allows the tolerance.
 pub fn is_tolerance(deck: &Deck, answer: &Answer) -> bool
@@ -17,7 +15,7 @@ pub fn is_tolerance(deck: &Deck, answer: &Answer) -> bool
     if deck.arcs().is_empty() {
         answer.tolerance == 0
     } else {
-        deck.least_tolerance() <= answer.tolerance && answer.tolerance <= LARGEST
+        deck.least_tolerance() <= answer.tolerance && answer.tolerance <= MOST_TOLERANCE
     }
 }
 

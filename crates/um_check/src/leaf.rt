@@ -1,6 +1,6 @@
 //! The leaves of a tree.
 
-ghost use Rattle.std.specs.Prelude.{◌≡◌, ◌^◌, ◌<◌, pos, ◌<ℤ◌, length, IsTrue, ◌↔◌, IfOk, IfErr};
+ghost use Rattle.std.specs.Prelude.{◌≡◌, ◌<◌, pos, ◌<ℤ◌, length, IsTrue, ◌↔◌, IfOk, IfErr};
 ghost use Rattle.um_multipliers.specs.NormalForm.{HasRisingRows};
 ghost use Rattle.um_multipliers.specs.PlainMultipliers.{plain_multipliers};
 ghost use Rattle.um_multipliers.specs.Sizes.{AreBelow};
@@ -9,6 +9,7 @@ ghost use Rattle.um_model.specs.AnswerValues.{AnswerValue, Bounded, Empty, Void,
 ghost use Rattle.um_model.specs.Boxes.{IsVoid, IsCrossed};
 ghost use Rattle.um_model.specs.Checkable.{IsCheckableWhat};
 ghost use Rattle.um_model.specs.LeafValue.{Empties};
+ghost use Rattle.um_model.specs.declared.limits.TheConstants.{MULTIPLIER_SIZE};
 ghost use Rattle.um_check.specs.Bounds.{least_of};
 ghost use Rattle.um_check.specs.Judging.{IsTolerance, LeafValueIs, IsUnusable, OnLeaf, GivesBound};
 
@@ -157,7 +158,7 @@ fn is_stopped(kind: AnswerKind) -> bool
 fn open_bound(node: &NodeBox<'_>, y: &Multipliers) -> LeastBound
     requires rows { HasRisingRows (length node.now.deck.rows) y.now.rows.items }
     requires full { ¬ IsVoid node.now.deck node.now.limits }
-    requires small { AreBelow (2 ^ 40) (plain_multipliers y.now) }
+    requires small { AreBelow MULTIPLIER_SIZE (plain_multipliers y.now) }
     requires positive { pos 0 <ℤ y.now.y0 }
     ensures { result ≡ least_of (bounds_at node.now.deck node.now.limits (OpenLeaf (plain_multipliers y.now))) }
 {

@@ -6,6 +6,7 @@ ghost use Rattle.um_model.specs.AnswerValues.{AnswerValue, Split, plain_answer, 
 ghost use Rattle.um_model.specs.Boxes.{root};
 ghost use Rattle.um_model.specs.Checkable.{IsCheckableWhat};
 ghost use Rattle.um_model.specs.declared.tree.Node.{Node};
+ghost use Rattle.um_model.specs.declared.limits.TheConstants.{MOST_NODES};
 ghost use Rattle.um_check.specs.Judging.{IsTolerance, IsVisited, FromBound, OnBound};
 ghost use Rattle.um_check.specs.Walks.{start_of};
 
@@ -20,7 +21,7 @@ pub fn on_nodes(walk: &mut Walk<'_>, answer: &Answer, nodes: &[Node]) -> Verdict
     requires start { walk.old ≡ start_of walk.old.deck }
     requires tolerance { IsTolerance answer.now.tolerance }
     requires nodes { map plain_node nodes.now ≡ (plain_answer answer.now).tree }
-    requires most { length nodes.now ≤ 200001 }
+    requires most { length nodes.now ≤ MOST_NODES }
     requires checkable { All (λ (n : Node). IsCheckableWhat walk.old.deck (plain_what n.what)) nodes.now }
     ensures verdict { NodesVerdict walk.old.deck (plain_answer answer.now) (root walk.old.deck ∷ []) 0 (plain_answer answer.now).tree (FromBound walk.old.deck (plain_answer answer.now)) result }
     ensures deck { walk.new.deck ≡ walk.old.deck }
@@ -43,7 +44,7 @@ pub fn on_nodes(walk: &mut Walk<'_>, answer: &Answer, nodes: &[Node]) -> Verdict
 
 /// A reason against the node at this place.
 fn no_at(place: usize, reason: Reason) -> Verdict
-    requires { place ≤ 200001 }
+    requires { place ≤ MOST_NODES }
     ensures { result ≡ by_node place reason }
 {
     Verdict::No {
@@ -80,7 +81,7 @@ fn is_stated(answer: &Answer, bound: Option<Frac>) -> bool
 /// or the first reason against it.
 fn visit(walk: &mut Walk<'_>, answer: &Answer, what: &What) -> Result<LeastBound, Reason>
     requires waits { walk.old.boxes ≢ [] }
-    requires room { walk.old.depth < 200001 }
+    requires room { walk.old.depth < MOST_NODES }
     requires tolerance { IsTolerance answer.now.tolerance }
     requires checkable { IsCheckableWhat walk.old.deck (plain_what what.now) }
     ensures visited { IsVisited walk.old.deck (plain_answer answer.now) (plain_what what.now) walk.old.boxes walk.new.boxes result }
@@ -102,7 +103,7 @@ fn visit(walk: &mut Walk<'_>, answer: &Answer, what: &What) -> Result<LeastBound
 /// Cuts the box that waits first.
 fn on_split(walk: &mut Walk<'_>, branch: &Branch) -> Result<LeastBound, Reason>
     requires waits { walk.old.boxes ≢ [] }
-    requires room { walk.old.depth < 200001 }
+    requires room { walk.old.depth < MOST_NODES }
     ensures visited { (a : AnswerValue) → IsVisited walk.old.deck a (Split branch.now) walk.old.boxes walk.new.boxes result }
     ensures deck { walk.new.deck ≡ walk.old.deck }
     ensures depth { walk.new.depth ≤ walk.old.depth + 1 }

@@ -1,6 +1,6 @@
 //! An answer's point: its numbers, whether it is feasible, and its objective.
 
-ghost use Rattle.std.specs.Prelude.{◌≡◌, ◌<◌, ◌^◌, All, IfSome, IsTrue, ◌↔◌, unsigned_abs};
+ghost use Rattle.std.specs.Prelude.{◌≡◌, ◌<◌, All, IfSome, IsTrue, ◌↔◌, unsigned_abs};
 ghost use Rattle.um_model.specs.Accepted.{IsSmallPoint, NumbersSmall, PointFeasible, ObjectiveHolds};
 ghost use Rattle.um_model.specs.AnswerValues.{plain_answer};
 ghost use Rattle.um_model.specs.Checkable.{IsCheckable};
@@ -8,14 +8,9 @@ ghost use Rattle.um_model.specs.Values.{plain_point};
 
 use crate::bound::is_same;
 use um_deck::Deck;
+use um_model::limits::{POINT_SIZE, RAY_SIZE};
 use um_model::{Answer, Point};
 use um_point::{feasible, objective};
-
-/// The numbers of a point are below this size.
-const POINT_SIZE: u128 = 1 << 36;
-
-/// The parts of a ray are below this size.
-const RAY_SIZE: u128 = 1 << 62;
 
 /// Whether the numbers of the point and of the ray are small enough to be checked.
 pub fn are_numbers_small(answer: &Answer) -> bool
@@ -34,7 +29,7 @@ fn is_point_small(answer: &Answer) -> bool
 }
 
 fn is_ray_small(answer: &Answer) -> bool
-    ensures { IsTrue result ↔ IfSome (plain_answer answer.now).ray (All (λ x. unsigned_abs x < 2 ^ 62)) }
+    ensures { IsTrue result ↔ IfSome (plain_answer answer.now).ray (All (λ x. unsigned_abs x < RAY_SIZE)) }
 {
     match &answer.ray {
         Some(ray) => are_below_ray(ray.as_slice()),
@@ -49,7 +44,7 @@ fn is_small(point: &Point) -> bool
 }
 
 fn are_small(parts: &[i128]) -> bool
-    ensures { IsTrue result ↔ All (λ x. unsigned_abs x < 2 ^ 36) parts.now }
+    ensures { IsTrue result ↔ All (λ x. unsigned_abs x < POINT_SIZE) parts.now }
 {
     for part in parts {
         if part.unsigned_abs() >= POINT_SIZE {
@@ -60,7 +55,7 @@ fn are_small(parts: &[i128]) -> bool
 }
 
 fn are_below_ray(parts: &[i128]) -> bool
-    ensures { IsTrue result ↔ All (λ x. unsigned_abs x < 2 ^ 62) parts.now }
+    ensures { IsTrue result ↔ All (λ x. unsigned_abs x < RAY_SIZE) parts.now }
 {
     for part in parts {
         if part.unsigned_abs() >= RAY_SIZE {

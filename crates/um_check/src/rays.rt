@@ -10,6 +10,7 @@ ghost use Rattle.um_model.specs.Objective.{cost_sum};
 ghost use Rattle.um_model.specs.Rays.{IsFree, Ray};
 ghost use Rattle.um_model.specs.Values.{ColumnValue, plain_column};
 ghost use Rattle.um_model.specs.WellFormed.{IsWithin};
+ghost use Rattle.um_model.specs.declared.limits.TheConstants.{MOST_COLUMNS, MOST_COEFFICIENT};
 ghost use Rattle.um_point.specs.Places.{HoldsAt};
 ghost use Rattle.um_point.specs.RowSums.{AreSums, HaveGrown};
 ghost use Rattle.um_point.specs.SmallPoints.{IsSmallColumn};
@@ -17,9 +18,10 @@ ghost use Rattle.um_check.specs.RayParts.{IsRayPart, ColumnIsFree, RowIsFree};
 
 use um_deck::{Column, Deck, Entry};
 use um_model::Answer;
+use um_model::limits::MOST_ROWS;
 
 /// A sum for each row that a deck may have, on the stack.
-type RowSums = [i128; 512];
+type RowSums = [i128; MOST_ROWS];
 
 /// Whether the ray, if there is one, is a ray of the deck.
 pub fn does_ray_hold(deck: &Deck, answer: &Answer) -> bool
@@ -44,7 +46,7 @@ pub fn is_ray(deck: &Deck, ray: &[i128]) -> bool
 
 fn row_count(deck: &Deck) -> u32
     ensures count { result ≡ length deck.now.rows }
-    ensures few { result ≤ 512 }
+    ensures few { result ≤ MOST_ROWS }
 {
     deck.known();
     deck.rows().len() as u32
@@ -134,7 +136,7 @@ fn cost_term(column: &Column, part: &i128) -> i128
 /// The sum of the costs times the ray's parts.
 fn cost_sum(columns: &[Column], ray: &[i128]) -> i128
     requires columns { All IsSmallColumn (map plain_column columns.now) }
-    requires few { length columns.now ≤ 4096 }
+    requires few { length columns.now ≤ MOST_COLUMNS }
     requires small { All IsRayPart ray.now }
     requires beside { length ray.now ≡ length columns.now }
     ensures value { result ≡ dot (λ (c : ColumnValue). c.cost) (map plain_column columns.now) ray.now }
@@ -149,7 +151,7 @@ fn cost_sum(columns: &[Column], ray: &[i128]) -> i128
 
 /// What an entry adds to the sum of its row.
 fn entry_term(entry: &Entry, part: &i128) -> i128
-    requires value { IsWithin (2 ^ 31) entry.now.value }
+    requires value { IsWithin MOST_COEFFICIENT entry.now.value }
     requires part { IsRayPart part.now }
     ensures value { result ≡ entry.now.value *ℤ part.now }
     ensures size { IsWithin (2 ^ 93) result }
@@ -159,7 +161,7 @@ fn entry_term(entry: &Entry, part: &i128) -> i128
 
 /// Adds to each row's sum the column's coefficient in the row times its part.
 fn add_column(sums: &mut [i128], column: &Column, part: &i128)
-    requires sums { length sums.old ≡ 512 }
+    requires sums { length sums.old ≡ MOST_ROWS }
     requires sizes { All (IsWithin (2 ^ 124)) sums.old }
     requires column { IsSmallColumn (plain_column column.now) }
     requires part { IsRayPart part.now }
@@ -173,12 +175,12 @@ fn add_column(sums: &mut [i128], column: &Column, part: &i128)
 /// By how much each row's sum changes along the ray; 0 past the last row.
 fn linear_sums(columns: &[Column], ray: &[i128]) -> RowSums
     requires columns { All IsSmallColumn (map plain_column columns.now) }
-    requires few { length columns.now ≤ 4096 }
+    requires few { length columns.now ≤ MOST_COLUMNS }
     requires small { All IsRayPart ray.now }
     requires beside { length ray.now ≡ length columns.now }
     ensures { AreSums (λ row. dot (coefficient row) (map plain_column columns.now) ray.now) result }
 {
-    let mut sums = [0; 512];
+    let mut sums = [0; MOST_ROWS];
     for (index, column) in columns.iter().enumerate() {
         add_column(&mut sums, column, &ray[index]);
     }

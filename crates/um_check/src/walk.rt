@@ -11,10 +11,8 @@ use std::alloc::Global;
 use std::marker::Model;
 use um_box::{Branch, NodeBox, Side, Undo};
 use um_deck::Deck;
+use um_model::limits::MOST_NODES;
 use um_num::Memory;
-
-/// The most nodes of a tree, and so the most turns on the way to a node.
-pub const MOST: usize = 200_001;
 
 /// A step on the way from the root to a box: the side that was taken of a branch, and what leads back.
 #[derive(Debug, Drop)]
@@ -35,6 +33,7 @@ pub struct Walk<'d> {
 
 impl<'d> Model for Walk<'d> {
     ghost use Rattle.std.specs.Prelude.{◌≤◌, length, vec_capacity};
+    ghost use Rattle.um_model.specs.declared.limits.TheConstants.{MOST_NODES};
     ghost use Rattle.um_check.specs.Walks.{WalkValue};
     ghost use Rattle.um_box.specs.Paths.{root_box};
 
@@ -44,7 +43,7 @@ impl<'d> Model for Walk<'d> {
 
     ghost view = { λ w. record { deck = w.node.deck; boxes = pending w.waits w.node.limits (waiting (root_box w.node.deck) w.turns.items); depth = length w.turns.items } };
 
-    ghost invariant = { λ w. IsWay w.node w.turns.items × (200001 ≤ vec_capacity w.turns) };
+    ghost invariant = { λ w. IsWay w.node w.turns.items × (MOST_NODES ≤ vec_capacity w.turns) };
 }
 
 impl<'d> Walk<'d> {
@@ -56,7 +55,7 @@ impl<'d> Walk<'d> {
         ensures { IfOk result (λ walk. walk ≡ start_of deck.now) }
     {
         let node = NodeBox::root(alloc, deck)?;
-        let turns = Vec::with_capacity(alloc, MOST)?;
+        let turns = Vec::with_capacity(alloc, MOST_NODES)?;
         Ok(Walk {
             node,
             turns,
@@ -89,7 +88,7 @@ impl<'d> Walk<'d> {
     /// Cuts the next box: its two children wait in its place.
     pub fn split(&mut self, branch: &Branch)
         requires fits { FirstFits self.old.deck branch.now self.old.boxes }
-        requires room { self.old.depth < MOST }
+        requires room { self.old.depth < MOST_NODES }
         ensures deck { self.new.deck ≡ self.old.deck }
         ensures boxes { self.new.boxes ≡ split_first self.old.deck branch.now self.old.boxes }
         ensures depth { self.new.depth ≡ self.old.depth + 1 }
