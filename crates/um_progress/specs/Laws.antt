@@ -14,6 +14,7 @@ use Rattle.um_model.specs.declared.answer.Why.{Why}
 use Rattle.um_model.specs.declared.branch.Branch.{Branch}
 use Rattle.um_model.specs.declared.leaf.Leaf.{Leaf}
 use Rattle.um_model.specs.declared.tree.Solved.{Solved}
+use Rattle.um_model.specs.declared.limits.TheConstants.{MOST_NODES, MOST_NUMBERS}
 use Rattle.um_tree.specs.Growths.{GrowthValue, IsGrowth, IsLeaf, IsTold, parted, settled}
 use Rattle.um_cover.specs.Sites.{box_at}
 use Rattle.um_cover.specs.Nodes.{NodeIs, OpenIs, IsImproved}
@@ -64,7 +65,7 @@ SettlingLaw =
 abbrev pub PartingLaw : Type 0
 PartingLaw =
     (d : DeckValue) (t : ℤ) (history : PlainHistory) (id : ℕ) (g : GrowthValue) (ws : List OpenNode) (incumbent : Option Incumbent) (least : Option Rational) (n : Number (Unit {0})) (branch : Branch) (l r : NodeValue) (more_left more_right : List OpenNode)
-    → IsSearch (Unit {0}) d t history (Some id) g ws incumbent least → n.id ≡ id → length history < 100000 → Fits d (box_at d g id) branch
+    → IsSearch (Unit {0}) d t history (Some id) g ws incumbent least → n.id ≡ id → length history < MOST_NUMBERS → Fits d (box_at d g id) branch
     → ChildIs d (objective_of incumbent) t (left d (box_at d g id) branch) (length g.nodes) l more_left
     → ChildIs d (objective_of incumbent) t (right d (box_at d g id) branch) (suc (length g.nodes)) r more_right
     → IsSearch (Unit {0}) d t (history ++ n ∷ []) None (parted g id (Some (record { number = suc (length history); pivots = n.pivots })) branch l r) ((ws ++ more_left) ++ more_right) incumbent least
@@ -73,7 +74,7 @@ PartingLaw =
 abbrev pub RoomLaw : Type 0
 RoomLaw =
     (d : DeckValue) (t : ℤ) (history : PlainHistory) (hand : Option ℕ) (g : GrowthValue) (ws : List OpenNode) (incumbent : Option Incumbent) (least : Option Rational)
-    → IsSearch (Unit {0}) d t history hand g ws incumbent least → length history < 100000 → length g.nodes + 2 ≤ 200001
+    → IsSearch (Unit {0}) d t history hand g ws incumbent least → length history < MOST_NUMBERS → length g.nodes + 2 ≤ MOST_NODES
 
 -- A better point is found.
 abbrev pub ImprovingLaw : Type 0
