@@ -17,10 +17,11 @@ ghost use Rattle.um_relax.specs.Parts.{IsSide, IsSigned, IsDivisor, AreSlackEntr
 ghost use Rattle.um_relax.specs.Refusals.{IsRefusedReading, IsFailure};
 
 use crate::large::Large;
-use crate::row_multipliers::{MOST_MULTIPLIER, first_slack};
+use crate::row_multipliers::first_slack;
 use crate::whole::{least_whole, normal};
 use std::alloc::Global;
 use um_lp::{At, Board, Multipliers, Relaxation, Wide, harms, is_below_end};
+use um_model::limits::MULTIPLIER_SIZE;
 use um_num::{Frac, List};
 
 /// The multipliers of Farkas, where no column may enter for this row: its entries at the slacks, as
@@ -36,8 +37,8 @@ pub fn farkas<B: Board>(
     requires straight { relaxation.now.bends.items ≡ [] }
     requires no_point { IsNext (B.state board.now) (NoPoint row) }
     ensures value { IfOk result (λ y. AreFarkas (B.state board.now) row (plain_multipliers y)) }
-    ensures small { IfOk result (λ y. AreBelow (2 ^ 40) (plain_multipliers y)) }
-    ensures refused { IfErr result (IsRefusedReading (B.state board.now) (HasLargeFarkas (2 ^ 40) (B.state board.now) row)) }
+    ensures small { IfOk result (λ y. AreBelow MULTIPLIER_SIZE (plain_multipliers y)) }
+    ensures refused { IfErr result (IsRefusedReading (B.state board.now) (HasLargeFarkas MULTIPLIER_SIZE (B.state board.now) row)) }
 {
     let to = leaves_to(board, row)?;
     let entries = slack_entries(alloc, relaxation, board, row)?;
@@ -45,7 +46,7 @@ pub fn farkas<B: Board>(
         unreachable!()
     };
     let ratios = ratios(alloc, entries.as_slice(), &divisor)?;
-    match least_whole(alloc, ratios.as_slice(), MOST_MULTIPLIER)? {
+    match least_whole(alloc, ratios.as_slice(), MULTIPLIER_SIZE as u64)? {
         Some(whole) => Ok(Multipliers {
             y0: 0,
             rows: normal(alloc, whole.parts.as_slice())?,

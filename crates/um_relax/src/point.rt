@@ -1,6 +1,6 @@
 //! The point of a board that has ended.
 
-ghost use Rattle.std.specs.Prelude.{◌≡◌, ◌^◌, ◌<◌, [], IfOk, IfErr};
+ghost use Rattle.std.specs.Prelude.{◌≡◌, ◌<◌, [], IfOk, IfErr};
 ghost use Rattle.um_lp.specs.Relaxations.{frame_of};
 ghost use Rattle.um_model.specs.Values.{plain_point};
 ghost use Rattle.um_model.specs.Accepted.{IsSmallPoint};
@@ -16,10 +16,8 @@ use crate::whole::least_whole;
 use std::alloc::Global;
 use um_lp::{Board, Relaxation, Wide};
 use um_model::Point;
+use um_model::limits::POINT_SIZE;
 use um_num::{Frac, List};
-
-/// Numbers of a point are below this in size.
-const MOST_PART: u64 = 1 << 36;
 
 /// The value of a column in natural size.
 fn natural_value<B: Board>(board: &B, column: u32) -> Result<Frac, Wide>
@@ -57,10 +55,10 @@ pub fn vertex<B: Board>(alloc: Global, relaxation: &Relaxation, board: &B) -> Re
     requires straight { relaxation.now.bends.items ≡ [] }
     ensures value { IfOk result (λ point. plain_point point ≡ vertex (B.state board.now)) }
     ensures small { IfOk result (λ point. IsSmallPoint (plain_point point)) }
-    ensures refused { IfErr result (IsRefusedReading (B.state board.now) (¬ AreSmall (2 ^ 36) (natural_values (B.state board.now)))) }
+    ensures refused { IfErr result (IsRefusedReading (B.state board.now) (¬ AreSmall POINT_SIZE (natural_values (B.state board.now)))) }
 {
     let values = natural_values(alloc, relaxation, board)?;
-    match least_whole(alloc, values.as_slice(), MOST_PART)? {
+    match least_whole(alloc, values.as_slice(), POINT_SIZE as u64)? {
         Some(whole) => Ok(Point {
             den: whole.den,
             parts: whole.parts,

@@ -13,10 +13,8 @@ use crate::large::Large;
 use crate::whole::{least_whole, normal};
 use std::alloc::Global;
 use um_lp::{Board, Multipliers, Relaxation};
+use um_model::limits::MULTIPLIER_SIZE;
 use um_num::{Frac, List};
-
-/// Multipliers are below this in size.
-pub(crate) const MOST_MULTIPLIER: u64 = 1 << 40;
 
 /// The slack of the first row, which is also how many columns stand before the slacks.
 pub(crate) fn first_slack<B: Board>(relaxation: &Relaxation, board: &B) -> u32
@@ -61,11 +59,11 @@ pub fn multipliers<B: Board>(
     requires frame { (B.state board.now).frame ≡ frame_of relaxation.now }
     requires straight { relaxation.now.bends.items ≡ [] }
     ensures value { IfOk result (λ y. plain_multipliers y ≡ multipliers (B.state board.now)) }
-    ensures small { IfOk result (λ y. AreBelow (2 ^ 40) (plain_multipliers y)) }
-    ensures refused { IfErr result (IsRefusedReading (B.state board.now) (¬ AreSmall (2 ^ 40) (slack_costs (B.state board.now)))) }
+    ensures small { IfOk result (λ y. AreBelow MULTIPLIER_SIZE (plain_multipliers y)) }
+    ensures refused { IfErr result (IsRefusedReading (B.state board.now) (¬ AreSmall MULTIPLIER_SIZE (slack_costs (B.state board.now)))) }
 {
     let costs = slack_costs(alloc, relaxation, board)?;
-    match least_whole(alloc, costs.as_slice(), MOST_MULTIPLIER)? {
+    match least_whole(alloc, costs.as_slice(), MULTIPLIER_SIZE as u64)? {
         Some(whole) => Ok(Multipliers {
             y0: whole.den,
             rows: normal(alloc, whole.parts.as_slice())?,
