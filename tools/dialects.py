@@ -1,13 +1,14 @@
 #!/usr/bin/env python3
 """Rewrites a deck that another program wrote, or is meant for, as one that is read with the same meaning here.
 
-    tools/dialects.py IN OUT [--as glpsol|cbc|lp_solve] [--max | --min] [--constant X]
+    tools/dialects.py IN OUT [--as glpsol|cbc|lp_solve] [--max | --min | --turned] [--constant X]
                              [--rhs-constant added|taken] [--integers one|binary|open] [--low N] [--end N]
 
 Each change is told in one line of the error output, with the name of its rule. The rules stand in a table of
 docs/other-programs.md. A deck that cannot be rewritten is refused with a reason, and OUT is not written.
 
-Status 0: OUT was written. Status 1: the deck is refused. Status 2: the words of the command are wrong.
+Status 0: OUT was written. Status 1: the deck is refused. Status 2: the words of the command are wrong, or a file cannot be
+opened.
 """
 
 import argparse
@@ -55,6 +56,8 @@ def value_of(word):
 
 def numeral(value):
     """The shortest numeral of a decimal, without an exponent."""
+    if abs(value.adjusted()) > 500:
+        raise Refused(f"the number {value} is too wide")
     text = format(value, "f")
     if "." in text:
         text = text.rstrip("0").rstrip(".")
@@ -196,6 +199,23 @@ def order(deck):
 # The rule `sense`
 
 
+def turned(deck):
+    """A deck that minimises the negative of a maximum becomes that maximum. Its constant stays as it stands."""
+    objective = deck.objective()
+    count = 0
+    for line in deck.lines("COLUMNS"):
+        words = list(line.words)
+        for place in range(1, len(words) - 1, 2):
+            if words[place] == objective and is_number(words[place + 1]):
+                words[place + 1] = numeral(value_of(words[place + 1]).copy_negate())
+                count += 1
+        if words != line.words:
+            put_words(line, words)
+    deck.note("sense", f"{count} numbers of {objective} in COLUMNS are turned")
+    if deck.squares or deck.lines("ARCS"):
+        raise Refused("--turned is for decks without squares")
+
+
 def sense(deck, asked):
     if asked is None or deck.sense == asked or (deck.sense is None and asked == "MIN"):
         return
@@ -240,7 +260,7 @@ def constant(deck, given, reading, program):
                 deck.note("constant", f"the number {words[place]} of {row} in RHS, line {line.number}, is left out")
                 del words[place - 1 : place + 1]
             elif reading == "added":
-                turned = numeral(-value_of(words[place]))
+                turned = numeral(value_of(words[place]).copy_negate())
                 deck.note("constant", f"the number {words[place]} of {row} in RHS, line {line.number}, is written as {turned}")
                 words[place] = turned
             elif reading is None:
@@ -252,7 +272,7 @@ def constant(deck, given, reading, program):
             else:
                 put_words(line, words)
     if given is not None and given != 0:
-        turned = numeral(-given)
+        turned = numeral(given.copy_negate())
         deck.note("constant", f"{numeral(given)} is written as {turned} of {objective} in RHS")
         name = [used] if used else [] if lines else ["RHS"]
         lines.append(Line(0, " " + " ".join(name + [objective, turned])))
@@ -540,7 +560,9 @@ def rewrite(text, words):
     deck = Deck(text)
     order(deck)
     constant(deck, words.constant, words.rhs_constant, words.program)
-    sense(deck, "MAX" if words.max else "MIN" if words.min else None)
+    if words.turned:
+        turned(deck)
+    sense(deck, "MAX" if words.max or words.turned else "MIN" if words.min else None)
     infinity(deck)
     sets(deck)
     squares(deck)
@@ -563,6 +585,7 @@ def main():
     parser.add_argument("--as", dest="program", choices=["glpsol", "cbc", "lp_solve"], help="the program that the deck is of")
     parser.add_argument("--max", action="store_true", help="the objective is maximised")
     parser.add_argument("--min", action="store_true", help="the objective is minimised")
+    parser.add_argument("--turned", action="store_true", help="the deck minimises the negative of a maximum, but for its constant")
     parser.add_argument("--constant", type=number_word, metavar="X", help="X is added to the objective")
     parser.add_argument("--rhs-constant", choices=["added", "taken"],
                         help="the number of the objective in RHS is added to it, or taken off")
@@ -572,18 +595,21 @@ def main():
     parser.add_argument("--low", type=number_word, metavar="N", help="the low end of columns that need one")
     parser.add_argument("--end", type=number_word, metavar="N", help="the high end of columns that need one")
     words = parser.parse_args()
-    if words.max and words.min:
-        parser.error("--max and --min exclude each other")
+    if words.max + words.min + words.turned > 1:
+        parser.error("--max, --min and --turned exclude each other")
     try:
         with open(words.source, encoding="utf-8", errors="surrogateescape", newline="") as file:
             deck = rewrite(file.read(), words)
+        for note in deck.notes:
+            print(f"dialects: {note}", file=sys.stderr)
+        with open(words.target, "w", encoding="utf-8", errors="surrogateescape", newline="\n") as file:
+            file.write(deck.text())
     except Refused as refused:
         print(f"dialects: {refused}", file=sys.stderr)
         return 1
-    for note in deck.notes:
-        print(f"dialects: {note}", file=sys.stderr)
-    with open(words.target, "w", encoding="utf-8", errors="surrogateescape", newline="\n") as file:
-        file.write(deck.text())
+    except OSError as error:
+        print(f"dialects: {error}", file=sys.stderr)
+        return 2
     return 0
 
 
