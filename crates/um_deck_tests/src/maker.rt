@@ -14,9 +14,9 @@ const TEXT: &[u8] =
 #[test]
 fn refused_statements(rt: HostRuntime) -> Result<(), Fail> {
     let mut maker = DeckMaker::new(rt.alloc());
-    for (statement, want) in SCRIPT {
+    for (place, (statement, want)) in SCRIPT.iter().enumerate() {
         let told = tell(&mut maker, statement);
-        assert!(rt; told.err() == *want, "{statement:?}");
+        assert!(rt; told.err() == *want, "statement {place}");
     }
     Ok(())
 }

@@ -9,13 +9,14 @@ use um_maker::{BoundKind, DeckMaker, Fault, RowKind, SetKind};
 use um_num::Decimal;
 use um_text::decimal;
 
-/// A statement, with its numbers as words. Each column is followed by its entries in two rows.
-#[derive(Clone, Copy, Debug)]
+/// A statement, with its numbers as words.
+#[derive(Clone, Copy)]
 pub enum Statement {
     Name(&'static str),
     Maximise,
     Row(RowKind, &'static str),
-    Column(&'static str, bool, [(&'static str, &'static str); 2]),
+    /// Of a name, whether it is integer, a number in the row `z`, and another row with the number there.
+    Column(&'static str, bool, &'static str, &'static str, &'static str),
     Side(&'static str, &'static str),
     Range(&'static str, &'static str),
     Upper(&'static str, &'static str),
@@ -33,10 +34,7 @@ pub const SCRIPT: &[(Statement, Option<Fault>)] = &[
     (Statement::Row(RowKind::N, "z"), None),
     (Statement::Row(RowKind::L, "z"), Some(Fault::TwiceRow)),
     (Statement::Row(RowKind::L, "r"), None),
-    (
-        Statement::Column("x", false, [("z", "1.5"), ("r", "2")]),
-        None,
-    ),
+    (Statement::Column("x", false, "1.5", "r", "2"), None),
     (Statement::Side("r", "3"), None),
     (Statement::Side("r", "4"), Some(Fault::TwiceEntry)),
     (Statement::Side("z", "0.25"), None),
@@ -44,13 +42,10 @@ pub const SCRIPT: &[(Statement, Option<Fault>)] = &[
     (Statement::Range("r", "7"), None),
     (Statement::Upper("x", "4"), None),
     (Statement::Upper("y", "2"), Some(Fault::UnknownColumn)),
-    (
-        Statement::Column("y", true, [("z", "0"), ("r", "0.5")]),
-        None,
-    ),
+    (Statement::Column("y", true, "0", "r", "0.5"), None),
     (Statement::Upper("y", "2"), None),
     (
-        Statement::Column("w", false, [("z", "0"), ("z", "1")]),
+        Statement::Column("w", false, "0", "z", "1"),
         Some(Fault::TwiceEntry),
     ),
     (Statement::Upper("w", "1"), None),
@@ -58,17 +53,11 @@ pub const SCRIPT: &[(Statement, Option<Fault>)] = &[
     (Statement::Member("x", "1"), None),
     (Statement::Member("x", "2"), Some(Fault::TwiceMember)),
     (Statement::Member("w", "0.5"), None),
-    (
-        Statement::Column("q", false, [("z", "0"), ("r", "0")]),
-        None,
-    ),
+    (Statement::Column("q", false, "0", "r", "0"), None),
     (Statement::Upper("q", "3"), None),
     (Statement::Arc("r", "q", "1"), Some(Fault::ArcRow)),
     (Statement::Arc("z", "q", "0.75"), None),
-    (
-        Statement::Column("v", false, [("z", "0"), ("r", "0")]),
-        None,
-    ),
+    (Statement::Column("v", false, "0", "r", "0"), None),
     (Statement::Free("v"), None),
 ];
 
@@ -90,7 +79,11 @@ pub fn tell(maker: &mut DeckMaker, statement: &Statement) -> Result<(), Fault> {
             Ok(())
         }
         Statement::Row(kind, name) => maker.row(kind, name.as_bytes()),
-        Statement::Column(name, integer, entries) => column(maker, name, integer, entries),
+        Statement::Column(name, integer, first, row, second) => {
+            begin_column(maker, name, integer)?;
+            entry(maker, "z", first)?;
+            entry(maker, row, second)
+        }
         Statement::Side(row, value) => maker.rhs(row.as_bytes(), &number(value)?),
         Statement::Range(row, value) => maker.range(row.as_bytes(), &number(value)?),
         Statement::Upper(column, value) => {
@@ -103,19 +96,6 @@ pub fn tell(maker: &mut DeckMaker, statement: &Statement) -> Result<(), Fault> {
             maker.arc(row.as_bytes(), column.as_bytes(), &number(value)?)
         }
     }
-}
-
-/// A column and its entries.
-fn column(
-    maker: &mut DeckMaker,
-    name: &str,
-    integer: bool,
-    entries: [(&'static str, &'static str); 2],
-) -> Result<(), Fault> {
-    let [first, second] = entries;
-    begin_column(maker, name, integer)?;
-    entry(maker, first.0, first.1)?;
-    entry(maker, second.0, second.1)
 }
 
 fn begin_column(maker: &mut DeckMaker, name: &str, integer: bool) -> Result<(), Fault>
