@@ -1,4 +1,5 @@
--- How a search ended: no node waits any more, it found a point of a deck with a ray, or it stopped early.
+-- How a search ended: no node waits any more, it found a point of a deck with a ray, or it stopped
+-- early.
 use Rattle.std.specs.Prelude.{ℕ, Option, Some, None}
 use Rattle.um_model.specs.Values.{DeckValue, PointValue}
 use Rattle.um_model.specs.declared.answer.AnswerKind.{AnswerKind}

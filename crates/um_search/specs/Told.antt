@@ -52,24 +52,30 @@ IsEndedBy history (Some cause) = IsHaltedLast history cause
 abbrev pub IsOpenStill : DeckValue → Option Rational → BoxValue → MultipliersValue → Type 0
 IsOpenStill d best b y = IfSome best (λ v. ¬ Closes d b y v (pos 0))
 
--- all nodes of the budget are solved, and none of them is an open leaf; the one in hand is one, without a number, and its own multipliers do not close it at the best objective
-pub record HasSpentNodes (d : DeckValue) (budget : Budget) (best : Option Rational) (g : GrowthValue) (history : History) : Type 0 where
+-- all nodes of the budget are solved, and none of them is an open leaf; the one in hand is one,
+-- without a number, and its own multipliers do not close it at the best objective
+pub record HasSpentNodes (d : DeckValue) (budget : Budget) (best : Option Rational)
+    (g : GrowthValue) (history : History) : Type 0 where
   pub all : length history ≡ budget.nodes
-  pub unsolved : (id : ℕ) → id < length g.nodes → IsOpenLeaf (what_at g id) → (node_at g id).solved ≡ None
+  pub unsolved : (id : ℕ) → id < length g.nodes → IsOpenLeaf (what_at g id)
+      → (node_at g id).solved ≡ None
   pub hand : ℕ
   pub fresh : IsFresh g hand
   pub own : MultipliersValue
   pub own_is : what_at g hand ≡ OpenLeaf own
   pub open_still : IsOpenStill d best (box_at d g hand) own
 
--- a step is due in the run on the box of the node of this number, or in the start problem with which number 1 opens the board
+-- a step is due in the run on the box of the node of this number, or in the start problem with
+-- which number 1 opens the board
 abbrev pub IsStepDue : DeckValue → BoxValue → Number Turn → ℕ → Type 0
 IsStepDue d b n number =
-    IsNumberRun d number n.told.before n.pivots n.told.ray (λ begun early steps. (state : State) × IsRun d b begun steps state × IsDue state)
+    IsNumberRun d number n.told.before n.pivots n.told.ray
+    (λ begun early steps. (state : State) × IsRun d b begun steps state × IsDue state)
     ⊎ ((number ≡ 1) × (state : State) × IsOutOfPivots d n.told.before n.pivots 0 state)
 
 -- all pivots of the budget are made, and a step is due in the last turn
-pub record HasSpentPivots (d : DeckValue) (budget : Budget) (g : GrowthValue) (history : History) : Type 0 where
+pub record HasSpentPivots (d : DeckValue) (budget : Budget) (g : GrowthValue) (history : History)
+    : Type 0 where
   pub all : pivots_of history ≡ budget.pivots
   pub before : History
   pub last : Number Turn
@@ -78,11 +84,16 @@ pub record HasSpentPivots (d : DeckValue) (budget : Budget) (g : GrowthValue) (h
 
 -- ---- the open leaves
 
--- where the node is an open leaf without a number, it has the multipliers that it was handed: 1 and none for the root, else those of the vertex of its parent
+-- where the node is an open leaf without a number, it has the multipliers that it was handed: 1 and
+-- none for the root, else those of the vertex of its parent
 abbrev pub IsHandedLeaf : GrowthValue → History → ℕ → Type 0
-IsHandedLeaf g history id = (y : MultipliersValue) → node_at g id ≡ record { solved = None; what = OpenLeaf y } → IsHanded history (origin_at g id) y
+IsHandedLeaf g history id =
+    (y : MultipliersValue) → node_at g id ≡ record { solved = None; what = OpenLeaf y }
+    → IsHanded history (origin_at g id) y
 
--- and so of all nodes. An open leaf with a number is that of the turn in which the search stopped, and has its own multipliers where they were read, else those that it was handed, as the history says
+-- and so of all nodes. An open leaf with a number is that of the turn in which the search stopped,
+-- and has its own multipliers where they were read, else those that it was handed, as the history
+-- says
 abbrev pub OpenLeavesAreHanded : GrowthValue → History → Type 0
 OpenLeavesAreHanded g history = (id : ℕ) → id < length g.nodes → IsHandedLeaf g history id
 
@@ -94,11 +105,14 @@ IsOneAndNone y = y ≡ record { y0 = pos 1; rows = [] }
 
 -- and so are those of each open leaf, with a number or without one
 abbrev pub HaveOneAndNone : GrowthValue → Type 0
-HaveOneAndNone g = (id : ℕ) (y : MultipliersValue) → id < length g.nodes → what_at g id ≡ OpenLeaf y → IsOneAndNone y
+HaveOneAndNone g =
+    (id : ℕ) (y : MultipliersValue) → id < length g.nodes → what_at g id ≡ OpenLeaf y
+    → IsOneAndNone y
 
 -- ---- the best point
 
--- the point and the objective are those of the first of least objective among the feasible vertices of the turns
+-- the point and the objective are those of the first of least objective among the feasible vertices
+-- of the turns
 pub record TellsBest (d : DeckValue) (history : History) (a : AnswerValue) : Type 0 where
   pub incumbent : Option Incumbent
   pub best : IsBest d history incumbent
@@ -107,85 +121,90 @@ pub record TellsBest (d : DeckValue) (history : History) (a : AnswerValue) : Typ
 
 -- ---- the answer
 
--- The answer tells a search within this budget: its tree, the turns of its nodes in the order of their numbers on
--- one board, how it ended, and the best point of its turns.
---   tree: the answer's tree tells the nodes of the growth in preorder
---   told: each turn begins where the one before ended, its run is on the box of its node, and the node became what its end asks for
---   numbered: the numbers in the tree are those of the turns
---   handed: the open leaves without a number have the multipliers that they were handed
---   unnumbered: each node without a number is void, or open, or closed with the multipliers that it was handed
---   lineage: each split has a number, and numbers rise from parents to children
---   needed: the best point so far closed no node that was solved, and none that was split
---   ended: why it ended
---   no_grid: it did not end at a vertex that asks for no branch
---   nodes, pivots: within the budget
---   spent_nodes: where nodes were wanting, all are solved and one more is in hand, which the best point does not close
---   spent_pivots: where pivots were wanting, all were made and one more step is due
---   no_point: where the first turn has shown a ray there is no point, as a feasible one makes the answer Unbounded
---   no_costs: there each open leaf has the multipliers 1 and none, as the board takes no costs
---   no_bound: and there is no bound, as no end of a box stops the ray, along which the costs fall
+-- The answer tells a search within this budget: its tree, the turns of its nodes in the order of
+-- their numbers on one board, how it ended, and the best point of its turns.
 pub record TellsSearch (d : DeckValue) (budget : Budget) (a : AnswerValue) : Type 0 where
   pub tolerance : a.tolerance ≡ pos 0
   pub ray : a.ray ≡ None
   pub growth : GrowthValue
   pub is : IsGrowth growth
+  -- the answer's tree tells the nodes of the growth in preorder
   pub tree : IsTold growth a.tree
   pub start : State
   pub history : History
+  -- each turn begins where the one before ended, its run is on the box of its node, and the node
+  -- became what its end asks for
   pub told : IsHistory d start budget.pivots growth history
+  -- the numbers in the tree are those of the turns
   pub numbered : IsNumbered Turn growth history
+  -- the open leaves without a number have the multipliers that they were handed
   pub handed : OpenLeavesAreHanded growth history
+  -- each node without a number is void, or open, or closed with the multipliers that it was handed
   pub unnumbered : AreUnnumbered growth history
+  -- each split has a number, and numbers rise from parents to children
   pub lineage : IsLineage growth
+  -- the best point so far closed no node that was solved, and none that was split
   pub needed : AreNeeded d growth history
   pub best : TellsBest d history a
+  -- why it ended
   pub ended : IsEndedBy history a.why
+  -- it did not end at a vertex that asks for no branch
   pub no_grid : IfSome a.why IsNoGrid
+  -- within the budget
   pub nodes : length history ≤ budget.nodes
   pub pivots : pivots_of history ≤ budget.pivots
+  -- where nodes were wanting, all are solved and one more is in hand, which the best point does not
+  -- close
   pub spent_nodes : a.why ≡ Some why.Nodes → HasSpentNodes d budget a.objective growth history
+  -- where pivots were wanting, all were made and one more step is due
   pub spent_pivots : a.why ≡ Some why.Pivots → HasSpentPivots d budget growth history
+  -- where the first turn has shown a ray there is no point, as a feasible one makes the answer
+  -- Unbounded
   pub no_point : IsSome (ray_of history) → IsNone a.point
+  -- there each open leaf has the multipliers 1 and none, as the board takes no costs
   pub no_costs : IsSome (ray_of history) → HaveOneAndNone growth
+  -- and there is no bound, as no end of a box stops the ray, along which the costs fall
   pub no_bound : IsSome (ray_of history) → IsNone a.bound
 
--- An unbounded answer tells the search that it came from, within this budget, too, but for the tree, which it has not:
--- the turns of its nodes on one board, of which the first has shown the ray, up to the first that ended at a feasible vertex.
---   growth, is: the tree that grew up to the last turn
---   told, numbered, unnumbered, lineage: of the turns before the last one and of the tree, as of another answer
---   finished: none of them stopped the search
---   none_before: none of them ended at a feasible vertex
---   fresh: the node of the last turn is an open leaf of the tree, without a number there
---   next: the last turn is the next one: it began where the turn before ended, with the pivots that were left, and its run is on the box of its node
---   end: it ended at this point, with these multipliers
---   feasible, point_is: the point is feasible, and is that of the answer
---   first: the ray is the one that the first turn has shown
---   shown: the start problem has shown it on the board with which the search began
---   nodes, pivots: with the last turn, too, within the budget
+-- An unbounded answer tells the search that it came from, within this budget, too, but for the
+-- tree, which it has not: the turns of its nodes on one board, of which the first has shown the
+-- ray, up to the first that ended at a feasible vertex.
 pub record TellsUnbounded (d : DeckValue) (budget : Budget) (a : AnswerValue) : Type 0 where
   pub tolerance : a.tolerance ≡ pos 0
+  -- the tree that grew up to the last turn
   pub growth : GrowthValue
   pub is : IsGrowth growth
   pub start : State
   pub history : History
+  -- the next four: of the turns before the last one, and of the tree, as of another answer
   pub told : IsHistory d start budget.pivots growth history
   pub numbered : IsNumbered Turn growth history
   pub unnumbered : AreUnnumbered growth history
   pub lineage : IsLineage growth
+  -- none of these turns stopped the search
   pub finished : AreFinished history
+  -- none of them ended at a feasible vertex
   pub none_before : IsBest d history None
   pub last : Number Turn
+  -- the node of the last turn is an open leaf of the tree, without a number there
   pub fresh : IsFresh growth last.id
+  -- the last turn is the next one: it began where the turn before ended, with the pivots that were
+  -- left, and its run is on the box of its node
   pub next : IsNextTurn d start budget.pivots growth history last.id last
   pub point : PointValue
   pub own : MultipliersValue
+  -- it ended at this point, with these multipliers
   pub end : last.told.end ≡ Reached point own
+  -- the point is feasible, and is that of the answer
   pub feasible : Feasible d point
   pub point_is : a.point ≡ Some point
   pub ray : List ℤ
   pub ray_is : a.ray ≡ Some ray
+  -- the ray is the one that the first turn has shown
   pub first : ray_of (history ++ last ∷ []) ≡ Some ray
+  -- the start problem has shown it on the board with which the search began
   pub shown : HasShown d start budget.pivots ray
+  -- with the last turn, too, within the budget
   pub nodes : length history < budget.nodes
   pub pivots : pivots_of history + last.pivots ≤ budget.pivots
 

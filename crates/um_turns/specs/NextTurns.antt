@@ -16,8 +16,10 @@ use Rattle.um_progress.specs.Incumbents.{objective_of}
 use Rattle.um_turns.specs.Turns.{Turn, TurnEnd, Reached, Emptied, Halted, EndHolds}
 use Rattle.um_turns.specs.Histories.{History, IsHanded, state_behind, left_behind}
 
--- a turn on the node of this id that may come next: it begins where the last one ended, with the pivots that are left and the multipliers that the node was handed, and is run on the node's box
-pub record IsNextTurn (d : DeckValue) (start : State) (most : ℕ) (g : GrowthValue) (history : History) (id : ℕ) (n : Number Turn) : Type 0 where
+-- a turn on the node of this id that may come next: it begins where the last one ended, with the
+-- pivots that are left and the multipliers that the node was handed, and is run on the node's box
+pub record IsNextTurn (d : DeckValue) (start : State) (most : ℕ) (g : GrowthValue)
+    (history : History) (id : ℕ) (n : Number Turn) : Type 0 where
   pub at : n.id ≡ id
   pub before : n.told.before ≡ state_behind start history
   pub left : n.told.left ≡ left_behind most history
@@ -29,8 +31,10 @@ pub record IsNextTurn (d : DeckValue) (start : State) (most : ℕ) (g : GrowthVa
 abbrev pub AreUnder : MultipliersValue → List OpenNode → Type 0
 AreUnder y waiting = Every (λ (w : OpenNode). plain_multipliers w.y ≡ y) waiting
 
--- a turn that ended so leaves the best point so far: it has no vertex, or one that is not feasible, or whose objective is not below that of the best point
+-- a turn that ended so leaves the best point so far: it has no vertex, or one that is not feasible,
+-- or whose objective is not below that of the best point
 abbrev pub IsNoBetter : DeckValue → Option Incumbent → TurnEnd → Type 0
-IsNoBetter d best (Reached p y) = Feasible d p → IsSomeAnd (objective_of best) (λ v. IsAtMost v (objective d p))
+IsNoBetter d best (Reached p y) =
+    Feasible d p → IsSomeAnd (objective_of best) (λ v. IsAtMost v (objective d p))
 IsNoBetter d best (Emptied y) = Unit {0}
 IsNoBetter d best (Halted cause own) = Unit {0}
