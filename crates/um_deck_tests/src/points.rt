@@ -3,7 +3,7 @@
 
 ghost use Rattle.std.specs.Prelude.{◌≡◌, ◌↔◌, All, IsTrue, length};
 ghost use Rattle.um_model.specs.Values.{plain_point};
-ghost use Rattle.um_point.specs.SmallPoints.{IsSmall, IsSmallPoint};
+ghost use Rattle.um_point.specs.SmallPoints.{FitsIn36Bits, FitsMachine};
 
 use crate::script::deck_of;
 use std::test::Fail;
@@ -28,13 +28,13 @@ const CASES: &[Case] = &[
 const LIMIT: i128 = 1 << 36;
 
 fn is_small(number: &i128) -> bool
-    ensures { IsTrue result ↔ IsSmall number.now }
+    ensures { IsTrue result ↔ FitsIn36Bits number.now }
 {
     -LIMIT < *number && *number < LIMIT
 }
 
 fn are_small(parts: &[i128]) -> bool
-    ensures { IsTrue result ↔ All IsSmall parts.now }
+    ensures { IsTrue result ↔ All FitsIn36Bits parts.now }
 {
     for part in parts {
         if !is_small(part) {
@@ -46,7 +46,7 @@ fn are_small(parts: &[i128]) -> bool
 
 /// Whether the calls may be made at the point.
 fn is_small_point(deck: &Deck, point: &Point) -> bool
-    ensures { IsTrue result → IsSmallPoint deck.now (plain_point point.now) }
+    ensures { IsTrue result → FitsMachine deck.now (plain_point point.now) }
 {
     1 <= point.den
         && is_small(&point.den)

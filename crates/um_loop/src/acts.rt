@@ -5,7 +5,7 @@ ghost use Rattle.um_model.specs.Branches.{Fits};
 ghost use Rattle.um_model.specs.Values.{plain_point};
 ghost use Rattle.um_multipliers.specs.PlainMultipliers.{plain_multipliers};
 ghost use Rattle.um_bound.specs.Usable.{AreUsable};
-ghost use Rattle.um_point.specs.SmallPoints.{IsSmallPoint};
+ghost use Rattle.um_point.specs.SmallPoints.{FitsMachine};
 ghost use Rattle.um_tree.specs.Growths.{IsOpenAt};
 ghost use Rattle.um_nodes.specs.Keys.{IsKey};
 ghost use Rattle.um_progress.specs.Searches.{IsLesser};
@@ -103,7 +103,7 @@ pub fn lesser(least: Option<Frac>, bound: &Frac) -> Frac
 
 /// The point is the best then, where it is feasible and its objective is below that of the best so far.
 pub(crate) fn improve(deck: &Deck, best: &mut Option<Incumbent>, point: Point)
-    requires { IsSmallPoint deck.now (plain_point point) }
+    requires { FitsMachine deck.now (plain_point point) }
     ensures { IsBestOf deck.now (plain_point point) best.old best.new }
 {
     if feasible(deck, &point).is_some() {

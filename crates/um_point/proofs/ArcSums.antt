@@ -17,7 +17,7 @@ use Rattle.um_model.specs.Feasible.{part, is_arc_of}
 use Rattle.um_model.specs.declared.deck.Arc.{Arc}
 use Rattle.um_deck.proofs.BoundedSums.{abs_product}
 use Rattle.um_point.specs.RowSums.{HaveGrown, arc_term}
-use Rattle.um_point.specs.SmallPoints.{IsSmall}
+use Rattle.um_point.specs.SmallPoints.{FitsIn36Bits}
 use Rattle.um_point.proofs.ObjectiveParts.{square_size}
 use Rattle.um_point.proofs.RowSteps.{sum_size, chosen_size, grown_size}
 
@@ -50,13 +50,13 @@ module _ (arcs : List Arc) (parts : List ℤ) (i : ℕ) (d : Arc) (inside : i < 
 
 -- ---- sizes
 
-term_size : (row : ℕ) (parts : List ℤ) (a : Arc) → All IsSmall parts → a.column < length parts → IsWithin (2 ^ 24) a.value → unsigned_abs (arc_term (Some row) parts a) ≤ 2 ^ 96
+term_size : (row : ℕ) (parts : List ℤ) (a : Arc) → All FitsIn36Bits parts → a.column < length parts → IsWithin (2 ^ 24) a.value → unsigned_abs (arc_term (Some row) parts a) ≤ 2 ^ 96
 term_size row parts a small inside value =
     let square = square_size (part parts a.column) (small a.column (pos 0) inside) in
     chosen_size (is_arc_of (Some row) a) (square_of parts a) (2 ^ 96) (abs_product a.value (part parts a.column *ℤ part parts a.column) (2 ^ 24) (2 ^ 72) value square)
 
 -- a row's sum among the first arcs is well inside the range
-pub arc_room : (arcs : List Arc) (parts : List ℤ) (n row : ℕ) (before now : List ℤ) → n ≤ length arcs → length arcs ≤ 2 ^ 22 → All (λ (a : Arc). IsWithin (2 ^ 24) a.value) arcs → All (λ (a : Arc). a.column < length parts) arcs → All IsSmall parts
+pub arc_room : (arcs : List Arc) (parts : List ℤ) (n row : ℕ) (before now : List ℤ) → n ≤ length arcs → length arcs ≤ 2 ^ 22 → All (λ (a : Arc). IsWithin (2 ^ 24) a.value) arcs → All (λ (a : Arc). a.column < length parts) arcs → All FitsIn36Bits parts
     → row < length before → All (IsWithin (2 ^ 124)) before → HaveGrown (λ r. sum_of (arc_term (Some r) parts) (take n arcs)) before now → unsigned_abs (part now row) < 2 ^ 126
 arc_room arcs parts n row before now l few values columns small inside sizes grown =
     let sum = sum_size (arc_term (Some row) parts) arcs n (2 ^ 96) l (λ k d within. term_size row parts (get_or arcs k d) small (columns k d within) (values k d within)) in

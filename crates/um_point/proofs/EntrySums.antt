@@ -16,7 +16,7 @@ use Rattle.um_model.specs.declared.deck.Entry.{Entry}
 use Rattle.um_deck.proofs.BoundedSums.{abs_product, dot_more}
 use Rattle.um_deck.proofs.ListParts.{All-of_map}
 use Rattle.um_point.specs.RowSums.{HaveGrown}
-use Rattle.um_point.specs.SmallPoints.{IsSmall, IsSmallColumn}
+use Rattle.um_point.specs.SmallPoints.{FitsIn36Bits, IsSmallColumn}
 use Rattle.um_point.proofs.RowSteps.{sum_size, dot_size, chosen_size, grown_size}
 
 -- ---- entries
@@ -71,13 +71,13 @@ coefficient_size row c h =
 abbrev pub columns_give : List Column → List ℤ → ℤ → ℕ → ℕ → ℤ
 columns_give columns parts den n row = den *ℤ dot (λ (c : Column). coefficient row (plain_column c)) (take n columns) parts
 
-pub columns_size : (columns : List Column) (parts : List ℤ) (den : ℤ) (n row : ℕ) → n ≤ length columns → length columns ≤ 4096 → All IsSmallColumn (map plain_column columns) → All IsSmall parts → IsSmall den
+pub columns_size : (columns : List Column) (parts : List ℤ) (den : ℤ) (n row : ℕ) → n ≤ length columns → length columns ≤ 4096 → All IsSmallColumn (map plain_column columns) → All FitsIn36Bits parts → FitsIn36Bits den
     → unsigned_abs (columns_give columns parts den n row) ≤ 2 ^ 124
 columns_size columns parts den n row l few small parts_small den_small =
     let each = All-of_map IsSmallColumn plain_column columns small in
     let sum =
     dot_size (λ (c : Column). coefficient row (plain_column c)) columns parts n (2 ^ 40) (2 ^ 36) l (λ k d within. coefficient_size row (plain_column (get_or columns k d)) (each k d within))
-    (λ k d within. let below : IsSmall (get_or parts k d) = parts_small k d within in omega arith) in
+    (λ k d within. let below : FitsIn36Bits (get_or parts k d) = parts_small k d within in omega arith) in
     abs_product den (dot (λ (c : Column). coefficient row (plain_column c)) (take n columns) parts) (2 ^ 36) (2 ^ 88) (omega arith) (omega (arith, sum, l, few))
 
 scaled_more : (den a c p : ℤ) → den *ℤ (a +ℤ c *ℤ p) ≡ den *ℤ a +ℤ c *ℤ (den *ℤ p)

@@ -6,15 +6,15 @@ use Rattle.um_model.specs.declared.deck.Entry.{Entry}
 use Rattle.um_model.specs.declared.limits.TheConstants.{MOST_ROWS, MOST_COEFFICIENT, POINT_SIZE}
 
 -- below 2^36 in size
-abbrev pub IsSmall : ℤ → Type 0
-IsSmall z = unsigned_abs z < POINT_SIZE
+abbrev pub FitsIn36Bits : ℤ → Type 0
+FitsIn36Bits z = unsigned_abs z < POINT_SIZE
 
 -- a denominator of at least 1 and a part for each column, all of them small
-pub record IsSmallPoint (d : DeckValue) (p : PointValue) : Type 0 where
+pub record FitsMachine (d : DeckValue) (p : PointValue) : Type 0 where
   pub den : pos 1 ≤ℤ p.den
-  pub den_size : IsSmall p.den
+  pub den_size : FitsIn36Bits p.den
   pub parts : length p.parts ≡ length d.columns
-  pub part_sizes : All IsSmall p.parts
+  pub part_sizes : All FitsIn36Bits p.parts
 
 -- a column of at most 512 entries in rows below 512, none of them and no cost above 2^31 in size
 pub record IsSmallColumn (c : ColumnValue) : Type 0 where

@@ -5,7 +5,7 @@ ghost use Rattle.std.specs.Option.{ForSome};
 ghost use Rattle.um_model.specs.Values.{plain_point};
 ghost use Rattle.um_model.specs.Feasible.{part, EndsHold, IntegerHolds, SemiHolds};
 ghost use Rattle.um_point.specs.Places.{HoldsAt};
-ghost use Rattle.um_point.specs.SmallPoints.{IsSmallPoint};
+ghost use Rattle.um_point.specs.SmallPoints.{FitsMachine};
 
 use crate::quotient::Quotient;
 use um_deck::Deck;
@@ -14,7 +14,7 @@ use um_model::{Kind, Point};
 /// A column's value.
 fn column_value(deck: &Deck, point: &Point, column: u32) -> Quotient
     requires inside { column < length deck.now.columns }
-    requires small { IsSmallPoint deck.now (plain_point point.now) }
+    requires small { FitsMachine deck.now (plain_point point.now) }
     ensures num { result.num ≡ part (plain_point point.now).parts column }
     ensures den { result.den ≡ point.now.den }
 {
@@ -27,7 +27,7 @@ fn column_value(deck: &Deck, point: &Point, column: u32) -> Quotient
 /// A column's value in thousandths.
 fn column_thousandths(deck: &Deck, point: &Point, column: u32) -> Quotient
     requires inside { column < length deck.now.columns }
-    requires small { IsSmallPoint deck.now (plain_point point.now) }
+    requires small { FitsMachine deck.now (plain_point point.now) }
     ensures num { result.num ≡ pos 1000 *ℤ part (plain_point point.now).parts column }
     ensures den { result.den ≡ point.now.den }
 {
@@ -40,7 +40,7 @@ fn column_thousandths(deck: &Deck, point: &Point, column: u32) -> Quotient
 /// Whether the column's value lies between its ends.
 pub fn ends_hold(deck: &Deck, point: &Point, column: u32) -> bool
     requires inside { column < length deck.now.columns }
-    requires small { IsSmallPoint deck.now (plain_point point.now) }
+    requires small { FitsMachine deck.now (plain_point point.now) }
     ensures { IsTrue result ↔ HoldsAt (EndsHold (plain_point point.now)) deck.now.columns column }
 {
     deck.known();
@@ -51,7 +51,7 @@ pub fn ends_hold(deck: &Deck, point: &Point, column: u32) -> bool
 /// Whether the column's value is whole, where it is to be.
 pub fn integer_holds(deck: &Deck, point: &Point, column: u32) -> bool
     requires inside { column < length deck.now.columns }
-    requires small { IsSmallPoint deck.now (plain_point point.now) }
+    requires small { FitsMachine deck.now (plain_point point.now) }
     ensures { IsTrue result ↔ HoldsAt (IntegerHolds (plain_point point.now)) deck.now.columns column }
 {
     let rules = &deck.columns()[column as usize];
@@ -65,7 +65,7 @@ pub fn integer_holds(deck: &Deck, point: &Point, column: u32) -> bool
 /// Whether the column's value is 0 or at least its threshold, where it has one.
 pub fn semi_holds(deck: &Deck, point: &Point, column: u32) -> bool
     requires inside { column < length deck.now.columns }
-    requires small { IsSmallPoint deck.now (plain_point point.now) }
+    requires small { FitsMachine deck.now (plain_point point.now) }
     ensures { IsTrue result ↔ HoldsAt (SemiHolds (plain_point point.now)) deck.now.columns column }
 {
     deck.known();

@@ -5,7 +5,7 @@ ghost use Rattle.um_model.specs.Values.{plain_point};
 ghost use Rattle.um_model.specs.Feasible.{AllPlaces, RowHolds, EndsHold, IntegerHolds, SemiHolds, SetHolds, Feasible};
 ghost use Rattle.um_model.specs.FirstBroken.{IsFirstFailure, IsFirstBroken};
 ghost use Rattle.um_model.specs.declared.limits.TheConstants.{MOST_ROWS};
-ghost use Rattle.um_point.specs.SmallPoints.{IsSmallPoint};
+ghost use Rattle.um_point.specs.SmallPoints.{FitsMachine};
 
 use crate::columns::{ends_hold, integer_holds, semi_holds};
 use crate::row_sums::row_sums;
@@ -37,7 +37,7 @@ fn set_count(deck: &Deck) -> u32
 }
 
 fn first_broken_row(deck: &Deck, point: &Point) -> Option<u32>
-    requires { IsSmallPoint deck.now (plain_point point.now) }
+    requires { FitsMachine deck.now (plain_point point.now) }
     ensures none { IsNone result ↔ AllPlaces (RowHolds deck.now (plain_point point.now)) deck.now.rows }
     ensures first { IfSome result (IsFirstFailure (RowHolds deck.now (plain_point point.now)) deck.now.rows) }
 {
@@ -51,7 +51,7 @@ fn first_broken_row(deck: &Deck, point: &Point) -> Option<u32>
 }
 
 fn first_broken_bound(deck: &Deck, point: &Point) -> Option<u32>
-    requires { IsSmallPoint deck.now (plain_point point.now) }
+    requires { FitsMachine deck.now (plain_point point.now) }
     ensures none { IsNone result ↔ AllPlaces (EndsHold (plain_point point.now)) deck.now.columns }
     ensures first { IfSome result (IsFirstFailure (EndsHold (plain_point point.now)) deck.now.columns) }
 {
@@ -64,7 +64,7 @@ fn first_broken_bound(deck: &Deck, point: &Point) -> Option<u32>
 }
 
 fn first_broken_integer(deck: &Deck, point: &Point) -> Option<u32>
-    requires { IsSmallPoint deck.now (plain_point point.now) }
+    requires { FitsMachine deck.now (plain_point point.now) }
     ensures none { IsNone result ↔ AllPlaces (IntegerHolds (plain_point point.now)) deck.now.columns }
     ensures first { IfSome result (IsFirstFailure (IntegerHolds (plain_point point.now)) deck.now.columns) }
 {
@@ -77,7 +77,7 @@ fn first_broken_integer(deck: &Deck, point: &Point) -> Option<u32>
 }
 
 fn first_broken_semi(deck: &Deck, point: &Point) -> Option<u32>
-    requires { IsSmallPoint deck.now (plain_point point.now) }
+    requires { FitsMachine deck.now (plain_point point.now) }
     ensures none { IsNone result ↔ AllPlaces (SemiHolds (plain_point point.now)) deck.now.columns }
     ensures first { IfSome result (IsFirstFailure (SemiHolds (plain_point point.now)) deck.now.columns) }
 {
@@ -90,7 +90,7 @@ fn first_broken_semi(deck: &Deck, point: &Point) -> Option<u32>
 }
 
 fn first_broken_set(deck: &Deck, point: &Point) -> Option<u32>
-    requires { IsSmallPoint deck.now (plain_point point.now) }
+    requires { FitsMachine deck.now (plain_point point.now) }
     ensures none { IsNone result ↔ AllPlaces (SetHolds (plain_point point.now)) deck.now.sets }
     ensures first { IfSome result (IsFirstFailure (SetHolds (plain_point point.now)) deck.now.sets) }
 {
@@ -105,7 +105,7 @@ fn first_broken_set(deck: &Deck, point: &Point) -> Option<u32>
 /// The first part of the deck that the point breaks, in the order rows, ends, integer columns,
 /// semicontinuous columns and sets. The point satisfies the deck where there is none.
 pub fn feasible(deck: &Deck, point: &Point) -> Option<Broken>
-    requires { IsSmallPoint deck.now (plain_point point.now) }
+    requires { FitsMachine deck.now (plain_point point.now) }
     ensures feasible { IsNone result ↔ Feasible deck.now (plain_point point.now) }
     ensures first { IfSome result (IsFirstBroken deck.now (plain_point point.now)) }
 {

@@ -9,7 +9,7 @@ ghost use Rattle.um_model.specs.Feasible.{coefficient, part, row_times};
 ghost use Rattle.um_model.specs.declared.deck.Arc.{Arc};
 ghost use Rattle.um_model.specs.declared.limits.TheConstants.{MOST_COLUMNS, MOST_COEFFICIENT, MOST_ARC};
 ghost use Rattle.um_point.specs.RowSums.{AreSums, HaveGrown, arc_term};
-ghost use Rattle.um_point.specs.SmallPoints.{IsSmall, IsSmallColumn, IsSmallPoint};
+ghost use Rattle.um_point.specs.SmallPoints.{FitsIn36Bits, IsSmallColumn, FitsMachine};
 
 use crate::sums::arc_square;
 use um_deck::Deck;
@@ -44,8 +44,8 @@ fn add_column(sums: &mut [i128], column: &Column, factor: &i128)
 
 /// A column's part times the denominator.
 fn scaled_part(point: &Point, index: usize) -> i128
-    requires den { IsSmall point.now.den }
-    requires parts { All IsSmall (plain_point point.now).parts }
+    requires den { FitsIn36Bits point.now.den }
+    requires parts { All FitsIn36Bits (plain_point point.now).parts }
     requires inside { index < length (plain_point point.now).parts }
     ensures value { result ≡ point.now.den *ℤ part (plain_point point.now).parts index }
     ensures size { IsWithin (2 ^ 72) result }
@@ -57,8 +57,8 @@ fn scaled_part(point: &Point, index: usize) -> i128
 fn entry_sums(columns: &[Column], point: &Point) -> RowSums
     requires columns { All IsSmallColumn (map plain_column columns.now) }
     requires few { length columns.now ≤ MOST_COLUMNS }
-    requires den { IsSmall point.now.den }
-    requires parts { All IsSmall (plain_point point.now).parts }
+    requires den { FitsIn36Bits point.now.den }
+    requires parts { All FitsIn36Bits (plain_point point.now).parts }
     requires beside { length (plain_point point.now).parts ≡ length columns.now }
     ensures sums { AreSums (λ row. point.now.den *ℤ dot (coefficient row) (map plain_column columns.now) (plain_point point.now).parts) result }
     ensures sizes { All (IsWithin (2 ^ 124)) result }
@@ -77,7 +77,7 @@ fn add_arcs(sums: &mut [i128], arcs: &[Arc], parts: &[i128])
     requires values { All (λ (a : Arc). IsWithin MOST_ARC a.value) arcs.now }
     requires rows { All (λ (a : Arc). ForSome a.row (λ row. row < length sums.old)) arcs.now }
     requires inside { All (λ (a : Arc). a.column < length parts.now) arcs.now }
-    requires parts { All IsSmall parts.now }
+    requires parts { All FitsIn36Bits parts.now }
     ensures { HaveGrown (λ row. sum_of (arc_term (Some row) parts.now) arcs.now) sums.old sums.new }
 {
     for arc in arcs {
@@ -90,7 +90,7 @@ fn add_arcs(sums: &mut [i128], arcs: &[Arc], parts: &[i128])
 
 /// The rows' sums times the square of the denominator, scaled by each row; 0 past the last row.
 pub fn row_sums(deck: &Deck, point: &Point) -> RowSums
-    requires { IsSmallPoint deck.now (plain_point point.now) }
+    requires { FitsMachine deck.now (plain_point point.now) }
     ensures { AreSums (row_times deck.now (plain_point point.now)) result }
 {
     deck.known();

@@ -4,7 +4,7 @@ ghost use Rattle.std.specs.Prelude.{◌≡◌, ◌<◌, ◌*ℤ◌, length, IsTr
 ghost use Rattle.um_model.specs.Values.{plain_point};
 ghost use Rattle.um_model.specs.Feasible.{row_times, RowHolds};
 ghost use Rattle.um_point.specs.Places.{HoldsAt};
-ghost use Rattle.um_point.specs.SmallPoints.{IsSmall, IsSmallPoint};
+ghost use Rattle.um_point.specs.SmallPoints.{FitsIn36Bits, FitsMachine};
 
 use crate::quotient::Quotient;
 use um_deck::Deck;
@@ -12,7 +12,7 @@ use um_model::Point;
 
 /// A row's value, from its sum.
 fn row_value(point: &Point, sum: &i128) -> Quotient
-    requires { IsSmall point.now.den }
+    requires { FitsIn36Bits point.now.den }
     ensures num { result.num ≡ sum.now }
     ensures den { result.den ≡ point.now.den *ℤ point.now.den }
 {
@@ -25,7 +25,7 @@ fn row_value(point: &Point, sum: &i128) -> Quotient
 /// Whether the row's value lies between its sides; `sum` is its sum times the square of the denominator.
 pub fn row_holds(deck: &Deck, point: &Point, row: u32, sum: &i128) -> bool
     requires inside { row < length deck.now.rows }
-    requires small { IsSmallPoint deck.now (plain_point point.now) }
+    requires small { FitsMachine deck.now (plain_point point.now) }
     requires sum { sum.now ≡ row_times deck.now (plain_point point.now) row }
     ensures { IsTrue result ↔ HoldsAt (RowHolds deck.now (plain_point point.now)) deck.now.rows row }
 {

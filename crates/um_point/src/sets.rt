@@ -6,7 +6,7 @@ ghost use Rattle.um_model.specs.Feasible.{part, IsNonzeroAt, SetRule, SetHolds};
 ghost use Rattle.um_model.specs.declared.deck.Member.{Member};
 ghost use Rattle.um_point.specs.MemberParts.{parts_of};
 ghost use Rattle.um_point.specs.Places.{HoldsAt};
-ghost use Rattle.um_point.specs.SmallPoints.{IsSmallPoint};
+ghost use Rattle.um_point.specs.SmallPoints.{FitsMachine};
 
 use um_deck::Deck;
 use um_model::{Member, Point, SetKind};
@@ -61,7 +61,7 @@ fn rule_holds(kind: SetKind, members: &[Member], parts: &[i128]) -> bool
 /// Whether the set's rule holds.
 pub fn set_holds(deck: &Deck, point: &Point, set: u32) -> bool
     requires inside { set < length deck.now.sets }
-    requires small { IsSmallPoint deck.now (plain_point point.now) }
+    requires small { FitsMachine deck.now (plain_point point.now) }
     ensures { IsTrue result ↔ HoldsAt (SetHolds (plain_point point.now)) deck.now.sets set }
 {
     deck.known();

@@ -8,7 +8,7 @@ use Rattle.um_model.specs.declared.deck.OrderedSet.{OrderedSet}
 use Rattle.um_deck.specs.Decks.{IsDeckNow}
 use Rattle.um_box.specs.NodeBoxes.{NodeBoxValue, IsNodeBox, IsInterval}
 use Rattle.um_box.proofs.Sizes.{few_members, set_there}
-use Rattle.um_point.specs.SmallPoints.{IsSmallPoint}
+use Rattle.um_point.specs.SmallPoints.{FitsMachine}
 use Rattle.um_point.proofs.PlaceLemmas.{image_is}
 use Rattle.um_split.specs.Intervals.{KeepsInterval}
 use Rattle.um_split.specs.Stretches.{IsStretch}
@@ -17,7 +17,7 @@ use Rattle.um_split.specs.Stretches.{IsStretch}
 pub set-at : (d : DeckValue) (ss : List OrderedSet) (set : ℕ) (x : OrderedSet) → map plain_set ss ≡ d.sets → set < length d.sets → x ≡ get_or ss set x → AtPlace d.sets set (plain_set x)
 set-at d ss set x same inside read = get_of d.sets set (plain_set x) inside ∙ ap Some (sym (image_is plain_set ss d.sets set x same inside read))
 
-pub stretch-of : (d : DeckValue) (b : NodeBoxValue) (set : ℕ) (p : PointValue) (s : SetValue) → IsDeckNow d → IsNodeBox b → b.deck ≡ d → AtPlace d.sets set s → IsSmallPoint d p → KeepsInterval d b.limits set p
+pub stretch-of : (d : DeckValue) (b : NodeBoxValue) (set : ℕ) (p : PointValue) (s : SetValue) → IsDeckNow d → IsNodeBox b → b.deck ≡ d → AtPlace d.sets set s → FitsMachine d p → KeepsInterval d b.limits set p
     → IsStretch s.members p.parts (span_at b.limits set).first ((span_at b.limits set).last + 1)
 stretch-of d b set p s deck node same at small keeps =
     let is = set_there d set s deck.formed at in

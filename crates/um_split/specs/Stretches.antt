@@ -8,7 +8,7 @@ use Rattle.um_model.specs.declared.deck.Member.{Member}
 use Rattle.um_model.specs.declared.deck.SetKind.{SetKind}
 use Rattle.um_model.specs.declared.branch.Branch.{Branch}
 use Rattle.um_point.specs.MemberParts.{parts_of}
-use Rattle.um_point.specs.SmallPoints.{IsSmall}
+use Rattle.um_point.specs.SmallPoints.{FitsIn36Bits}
 
 -- members of a deck's set by rising weight, with parts that are small, at least 0, and 0 before `start` and from `end` on
 pub record IsStretch (members : List Member) (parts : List ℤ) (start end : ℕ) : Type 0 where
@@ -16,7 +16,7 @@ pub record IsStretch (members : List Member) (parts : List ℤ) (start end : ℕ
   pub columns : All (λ (m : Member). m.column < length parts) members
   pub rise : AllPairs (λ (a : Member) (b : Member). a.weight <ℤ b.weight) members
   pub weights : All (λ (m : Member). IsWithin (2 ^ 31 * 10 ^ 6) m.weight) members
-  pub small : All IsSmall parts
+  pub small : All FitsIn36Bits parts
   pub order : start ≤ end
   pub inside : end ≤ length members
   pub up : (position : ℕ) → pos 0 ≤ℤ part (parts_of parts members) position

@@ -6,7 +6,7 @@ ghost use Rattle.um_model.specs.WellFormed.{IsWithin};
 ghost use Rattle.um_model.specs.Feasible.{part};
 ghost use Rattle.um_model.specs.declared.deck.Member.{Member};
 ghost use Rattle.um_point.specs.MemberParts.{parts_of};
-ghost use Rattle.um_point.specs.SmallPoints.{IsSmall};
+ghost use Rattle.um_point.specs.SmallPoints.{FitsIn36Bits};
 ghost use Rattle.um_split.specs.Stretches.{IsStretch};
 ghost use Rattle.um_split.specs.LastReached.{weight_at, IsLastReached};
 
@@ -24,7 +24,7 @@ pub(crate) struct Average {
 /// A member's part.
 fn part_of(member: &Member, parts: &[i128]) -> i128
     requires inside { member.now.column < length parts.now }
-    requires small { All IsSmall parts.now }
+    requires small { All FitsIn36Bits parts.now }
     ensures value { result ≡ part parts.now member.now.column }
     ensures size { IsWithin (2 ^ 36) result }
 {
@@ -34,7 +34,7 @@ fn part_of(member: &Member, parts: &[i128]) -> i128
 /// A member's weight times its part.
 fn weighted_part(member: &Member, parts: &[i128]) -> i128
     requires inside { member.now.column < length parts.now }
-    requires small { All IsSmall parts.now }
+    requires small { All FitsIn36Bits parts.now }
     requires weight { IsWithin (2 ^ 31 * 10 ^ 6) member.now.weight }
     ensures value { result ≡ member.now.weight *ℤ part parts.now member.now.column }
     ensures size { IsWithin (2 ^ 87) result }

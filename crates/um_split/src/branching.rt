@@ -4,7 +4,7 @@ ghost use Rattle.std.specs.Prelude.{◌≡◌, length, IsNone, IfSome, ◌↔◌
 ghost use Rattle.um_model.specs.Values.{plain_point};
 ghost use Rattle.um_model.specs.Feasible.{AllPlaces, IntegerHolds, SemiHolds, SetHolds};
 ghost use Rattle.um_model.specs.FirstBroken.{IsFirstFailure};
-ghost use Rattle.um_point.specs.SmallPoints.{IsSmallPoint};
+ghost use Rattle.um_point.specs.SmallPoints.{FitsMachine};
 ghost use Rattle.um_split.specs.Branchings.{IsBranchOf, IsFirstSplit, AsksForNone};
 ghost use Rattle.um_split.specs.Intervals.{KeepsIntervals};
 
@@ -20,7 +20,7 @@ use um_model::{Branch, Point};
 /// The members of each set are to be at least 0 at the point, and 0 outside the set's interval of the box.
 pub fn branch_of(deck: &Deck, node: &NodeBox<'_>, point: &Point) -> Option<Branch>
     requires deck { node.now.deck ≡ deck.now }
-    requires small { IsSmallPoint deck.now (plain_point point.now) }
+    requires small { FitsMachine deck.now (plain_point point.now) }
     requires intervals { KeepsIntervals deck.now node.now.limits (plain_point point.now) }
     ensures none { IsNone result ↔ AsksForNone deck.now (plain_point point.now) }
     ensures branch { IfSome result (IsBranchOf deck.now (plain_point point.now)) }
@@ -50,7 +50,7 @@ fn set_count(deck: &Deck) -> u32
 
 /// The branch on the first integer column whose value is not whole, at the floor of that value.
 fn broken_integer(deck: &Deck, point: &Point) -> Option<Branch>
-    requires { IsSmallPoint deck.now (plain_point point.now) }
+    requires { FitsMachine deck.now (plain_point point.now) }
     ensures none { IsNone result ↔ AllPlaces (IntegerHolds (plain_point point.now)) deck.now.columns }
     ensures branch { IfSome result (IsBranchOf deck.now (plain_point point.now)) }
 {
@@ -64,7 +64,7 @@ fn broken_integer(deck: &Deck, point: &Point) -> Option<Branch>
 
 /// The first semicontinuous column that is neither 0 nor at least its threshold.
 fn broken_semi(deck: &Deck, point: &Point) -> Option<u32>
-    requires { IsSmallPoint deck.now (plain_point point.now) }
+    requires { FitsMachine deck.now (plain_point point.now) }
     ensures none { IsNone result ↔ AllPlaces (SemiHolds (plain_point point.now)) deck.now.columns }
     ensures first { IfSome result (IsFirstFailure (SemiHolds (plain_point point.now)) deck.now.columns) }
 {
@@ -79,7 +79,7 @@ fn broken_semi(deck: &Deck, point: &Point) -> Option<u32>
 /// The average split of the first set whose rule fails.
 fn broken_set(deck: &Deck, node: &NodeBox<'_>, point: &Point) -> Option<Branch>
     requires deck { node.now.deck ≡ deck.now }
-    requires small { IsSmallPoint deck.now (plain_point point.now) }
+    requires small { FitsMachine deck.now (plain_point point.now) }
     requires intervals { KeepsIntervals deck.now node.now.limits (plain_point point.now) }
     ensures none { IsNone result ↔ AllPlaces (SetHolds (plain_point point.now)) deck.now.sets }
     ensures branch { IfSome result (IsFirstSplit deck.now (plain_point point.now)) }

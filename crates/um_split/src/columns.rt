@@ -5,7 +5,7 @@ ghost use Rattle.um_model.specs.Values.{plain_point};
 ghost use Rattle.um_model.specs.WellFormed.{IsWithin};
 ghost use Rattle.um_model.specs.Feasible.{part, IntegerHolds, SemiHolds, IsMultipleOf};
 ghost use Rattle.um_point.specs.Places.{HoldsAt};
-ghost use Rattle.um_point.specs.SmallPoints.{IsSmall, IsSmallPoint};
+ghost use Rattle.um_point.specs.SmallPoints.{FitsIn36Bits, FitsMachine};
 ghost use Rattle.um_split.specs.Branchings.{IsFloor};
 
 use um_deck::Deck;
@@ -15,7 +15,7 @@ use um_num::floor_div;
 /// The floor of the column's value, where that is to be whole and is not.
 pub(crate) fn floor_at(deck: &Deck, point: &Point, column: u32) -> Option<i64>
     requires inside { column < length deck.now.columns }
-    requires small { IsSmallPoint deck.now (plain_point point.now) }
+    requires small { FitsMachine deck.now (plain_point point.now) }
     ensures whole { IsNone result ↔ HoldsAt (IntegerHolds (plain_point point.now)) deck.now.columns column }
     ensures floor { IfSome result (IsFloor point.now.den (part (plain_point point.now).parts column)) }
 {
@@ -30,8 +30,8 @@ pub(crate) fn floor_at(deck: &Deck, point: &Point, column: u32) -> Option<i64>
 /// The floor of a value that is not whole.
 fn broken_floor(part: i128, den: i128) -> Option<i64>
     requires den { pos 1 ≤ℤ den }
-    requires den_size { IsSmall den }
-    requires part_size { IsSmall part }
+    requires den_size { FitsIn36Bits den }
+    requires part_size { FitsIn36Bits part }
     ensures whole { IsNone result ↔ IsMultipleOf den part }
     ensures floor { IfSome result (IsFloor den part) }
 {
@@ -46,7 +46,7 @@ fn broken_floor(part: i128, den: i128) -> Option<i64>
 /// Whether the column's value is 0 or at least its threshold, where it has one.
 pub(crate) fn semi_holds(deck: &Deck, point: &Point, column: u32) -> bool
     requires inside { column < length deck.now.columns }
-    requires small { IsSmallPoint deck.now (plain_point point.now) }
+    requires small { FitsMachine deck.now (plain_point point.now) }
     ensures { IsTrue result ↔ HoldsAt (SemiHolds (plain_point point.now)) deck.now.columns column }
 {
     deck.known();
@@ -66,8 +66,8 @@ pub(crate) fn semi_holds(deck: &Deck, point: &Point, column: u32) -> bool
 
 /// Whether a value is 0 or at least the threshold, which is in thousandths.
 fn is_zero_or_from(part: i128, den: i128, threshold: i64) -> bool
-    requires den_size { IsSmall den }
-    requires part_size { IsSmall part }
+    requires den_size { FitsIn36Bits den }
+    requires part_size { FitsIn36Bits part }
     requires threshold { IsWithin (10 ^ 10) threshold }
     ensures { IsTrue result ↔ ((part ≡ pos 0) ⊎ ((threshold *ℤ den) ≤ℤ (pos 1000 *ℤ part))) }
 {
@@ -76,14 +76,14 @@ fn is_zero_or_from(part: i128, den: i128, threshold: i64) -> bool
 
 fn times(threshold: i64, den: i128) -> i128
     requires threshold { IsWithin (10 ^ 10) threshold }
-    requires den { IsSmall den }
+    requires den { FitsIn36Bits den }
     ensures { result ≡ threshold *ℤ den }
 {
     i128::from(threshold) * den
 }
 
 fn thousandths(part: i128) -> i128
-    requires { IsSmall part }
+    requires { FitsIn36Bits part }
     ensures { result ≡ pos 1000 *ℤ part }
 {
     1000 * part

@@ -7,7 +7,7 @@ ghost use Rattle.um_model.specs.Feasible.{SetRule, SetHolds};
 ghost use Rattle.um_model.specs.AverageSplit.{split_at, IsAverageSplit};
 ghost use Rattle.um_point.specs.MemberParts.{parts_of};
 ghost use Rattle.um_point.specs.Places.{HoldsAt};
-ghost use Rattle.um_point.specs.SmallPoints.{IsSmallPoint};
+ghost use Rattle.um_point.specs.SmallPoints.{FitsMachine};
 ghost use Rattle.um_split.specs.Stretches.{IsStretch, IsSplitOf};
 ghost use Rattle.um_split.specs.Intervals.{KeepsInterval};
 ghost use Rattle.um_split.specs.Laws.{CutsOff};
@@ -65,7 +65,7 @@ fn split_members(
 pub fn split(deck: &Deck, set: u32, node: &NodeBox<'_>, point: &Point) -> Option<Branch>
     requires inside { set < length deck.now.sets }
     requires deck { node.now.deck ≡ deck.now }
-    requires small { IsSmallPoint deck.now (plain_point point.now) }
+    requires small { FitsMachine deck.now (plain_point point.now) }
     requires interval { KeepsInterval deck.now node.now.limits set (plain_point point.now) }
     ensures holds { IsNone result ↔ HoldsAt (SetHolds (plain_point point.now)) deck.now.sets set }
     ensures split { IfSome result (IsAverageSplit deck.now set (plain_point point.now)) }
