@@ -5,7 +5,7 @@ use Rattle.std.proofs.lemmas.List.{ext_get_or}
 use native.Mathlib.Numerals.{unary_clauses}
 use Rattle.um_lp.specs.Boards.{IsBoard}
 use Rattle.um_lp.specs.DualSteps.{IsStep, AreSteps, IsDualFeasible, IsDualFeasibleAt}
-use Rattle.um_lp.specs.States.{State, Frame, width, at_of, ends_of}
+use Rattle.um_lp.specs.States.{State, Frame, width, at_of, state_ends_of}
 use Rattle.um_lp.specs.declared.board.At.{At}
 use Rattle.um_lp.specs.declared.board.At.TheVariants.{Lower, Upper, Zero, Basic}
 use Rattle.um_lp.proofs.Rows.{by_row, row_with, same_or_not}
@@ -125,13 +125,13 @@ module _ (n : ℕ) (s t : State) (h : AreSteps n s t) (b : IsBoard s) (f : IsDua
   place : (k j : ℕ) → j < w → IsDualFeasibleAt (st k) j
   place k j l = (fine k).feasible j (subst (λ (x : Frame). j < width x) (sym (fine k).same.frame) l)
 
-  ends_alike : (k j : ℕ) → ends_of (st k) j ≡ ends_of s j
+  ends_alike : (k j : ℕ) → state_ends_of (st k) j ≡ state_ends_of s j
   ends_alike k j = ap (λ (x : List (Option ℤ × Option ℤ)). slice_index_or x j (None, None)) (fine k).ends
 
-  pub low_at : (k j : ℕ) → j < w → at_of (st k) j ≡ Lower → IsSome (ends_of s j).0
+  pub low_at : (k j : ℕ) → j < w → at_of (st k) j ≡ Lower → IsSome (state_ends_of s j).0
   low_at k j l e = subst (λ (x : Option ℤ × Option ℤ). IsSome x.0) (ends_alike k j) ((place k j l).lower e)
 
-  pub zero_at : (k j : ℕ) → j < w → at_of (st k) j ≡ Zero → ends_of s j ≡ (None, None)
+  pub zero_at : (k j : ℕ) → j < w → at_of (st k) j ≡ Zero → state_ends_of s j ≡ (None, None)
   zero_at k j l e = sym (ends_alike k j) ∙ (place k j l).free e
 
   pub long : (k : ℕ) → length (st k).at ≡ w
@@ -140,7 +140,7 @@ module _ (n : ℕ) (s t : State) (h : AreSteps n s t) (b : IsBoard s) (f : IsDua
   same_list : (i j : ℕ) → number i ≡ number j → (st i).at ≡ (st j).at
   same_list i j e = ext_get_or Zero (st i).at (st j).at (long i ∙ sym (long j)) (λ c l. (
       let lc : c < w = let q = long i in omega arith in
-      one_status (at_of (st i) c) (at_of (st j) c) (ends_of s c) (low_at i c lc) (low_at j c lc) (zero_at i c lc) (zero_at j c lc)
+      one_status (at_of (st i) c) (at_of (st j) c) (state_ends_of s c) (low_at i c lc) (low_at j c lc) (zero_at i c lc) (zero_at j c lc)
       (code_one w (λ k. digit (at_of (st i) k)) (λ k. digit (at_of (st j) k)) (λ k lk. digit_below (at_of (st i) k)) (λ k lk. digit_below (at_of (st j) k)) e c lc)))
 
   differ_later : (i m : ℕ) → i + suc m ≤ n → number i ≢ number (i + suc m)

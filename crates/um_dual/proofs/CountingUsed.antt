@@ -6,7 +6,7 @@ use Rattle.um_laws.specs.Rational.{whole, mul, neg}
 use Rattle.um_laws.proofs.Ring.{var, nought, ◌⊗◌, opp}
 use Rattle.um_lp.specs.Boards.{IsBoard}
 use Rattle.um_lp.specs.DualSteps.{AreSteps, IsDualFeasible}
-use Rattle.um_lp.specs.States.{State, width, slack, data_of, system, coefficient, at_of, ends_of, entry_of}
+use Rattle.um_lp.specs.States.{State, width, slack, data_of, system, coefficient, at_of, state_ends_of, entry_of}
 use Rattle.um_lp.specs.declared.board.At.TheVariants.{Zero, Basic}
 use Rattle.um_lp.specs.declared.relaxation.Term.{Term}
 use Rattle.um_laws.proofs.RationalEquations.{by_ring}
@@ -111,7 +111,7 @@ module _ (n : ℕ) (s t : State) (h : AreSteps n s t) (b : IsBoard s) (f : IsDua
     where
       by_use : (c : ℕ) → c < w → (u : Bool) → is_used s c ≡ u → at_of (st i) c ≡ at_of (st j) c
       by_use c lc true u =
-          one_status (at_of (st i) c) (at_of (st j) c) (ends_of s c) (low_at n s t h b f i c lc) (low_at n s t h b f j c lc) (zero_at n s t h b f i c lc) (zero_at n s t h b f j c lc)
+          one_status (at_of (st i) c) (at_of (st j) c) (state_ends_of s c) (low_at n s t h b f i c lc) (low_at n s t h b f j c lc) (zero_at n s t h b f i c lc) (zero_at n s t h b f j c lc)
           (code_one w (is_used s) (λ k. digit (at_of (st i) k)) (λ k. digit (at_of (st j) k)) (λ k. digit_below (at_of (st i) k)) (λ k. digit_below (at_of (st j) k)) e c lc u)
       by_use c lc false u = sym (unused_stays c lc u i li) ∙ unused_stays c lc u j lj
 

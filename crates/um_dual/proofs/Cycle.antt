@@ -7,7 +7,7 @@ use Rattle.um_laws.proofs.RationalOrder.{IsNonNegative}
 use Rattle.um_lp.specs.Basis.{sum_below, Solves}
 use Rattle.um_lp.specs.Boards.{IsBoard}
 use Rattle.um_lp.specs.DualSteps.{IsStep}
-use Rattle.um_lp.specs.States.{State, width, system, cost_of, basic_of, at_of, ends_of, entry_of, reduced_of, value_of, end_at, number_of_end}
+use Rattle.um_lp.specs.States.{State, width, system, cost_of, basic_of, at_of, state_ends_of, entry_of, reduced_of, value_of, end_at, number_of_end}
 use Rattle.um_lp.specs.declared.board.At.{At}
 use Rattle.um_lp.specs.declared.board.At.TheVariants.{Basic}
 use Rattle.um_laws.proofs.RationalEquations.{by_ring, difference_zero}
@@ -27,7 +27,7 @@ solve_each s a b ba bb =
 -- a nonbasic column that stands alike in two boards has one value
 pub value_alike : (s a b : State) → IsBoard (norm s a) → IsBoard (norm s b) → (j : ℕ) → j < width s.frame → at_of a j ≢ Basic → at_of b j ≡ at_of a j → value_of b j ≡ value_of a j
 value_alike s a b ba bb j l d e =
-    bb.values.nonbasic j l (λ q. d (sym e ∙ q)) ∙ ap (λ (x : At). number_of_end (end_at x (ends_of s j))) e ∙ sym (ba.values.nonbasic j l d)
+    bb.values.nonbasic j l (λ q. d (sym e ∙ q)) ∙ ap (λ (x : At). number_of_end (end_at x (state_ends_of s j))) e ∙ sym (ba.values.nonbasic j l d)
 
 telescope : (n : ℕ) (z : ℕ → Rational) → sum_below n (λ k. add (z k) (neg (z (suc k)))) ≡ add (z 0) (neg (z n))
 telescope zero z = by_ring (z 0 ∷ []) nought (var 0 ⊕ opp (var 0)) refl

@@ -8,7 +8,7 @@ use Rattle.um_laws.specs.Rational.{Rational, whole, add, mul, neg, inverse}
 use Rattle.um_lp.specs.Basis.{sum_below, pivot_line}
 use Rattle.um_lp.specs.Boards.{IsBoard, IsPivot, AreOrdered}
 use Rattle.um_lp.specs.DualSteps.{Pivot, IsNext, IsOutsideAt, Leaves, Enters, ComesBefore, IsDualFeasible, IsDualFeasibleAt, IsStep, AreSteps, ratio}
-use Rattle.um_lp.specs.States.{State, Frame, width, cost_of, basic_of, at_of, ends_of, entry_of, reduced_of}
+use Rattle.um_lp.specs.States.{State, Frame, width, cost_of, basic_of, at_of, state_ends_of, entry_of, reduced_of}
 use Rattle.um_lp.specs.declared.board.At.{At}
 use Rattle.um_lp.specs.declared.board.At.TheVariants.{Lower, Upper, Zero, Basic}
 use Rattle.um_lp.proofs.Acts.{pivot-gives}
@@ -38,21 +38,21 @@ record HasPlace (at : At) (d : Rational) (ends : Option ℤ × Option ℤ) : Typ
   stands : Stands at d
   has : HasEnd at ends
 
-place_of : (s : State) (j : ℕ) → IsDualFeasibleAt s j → HasPlace (at_of s j) (reduced_of s j) (ends_of s j)
+place_of : (s : State) (j : ℕ) → IsDualFeasibleAt s j → HasPlace (at_of s j) (reduced_of s j) (state_ends_of s j)
 place_of s j h = record {
   ordered = h.ordered;
   stands = stands_where (at_of s j) (reduced_of s j) h.positive h.negative;
-  has = has_end (at_of s j) (ends_of s j) h.lower h.upper h.free;
+  has = has_end (at_of s j) (state_ends_of s j) h.lower h.upper h.free;
 }
 
-feasible_from : (t : State) (j : ℕ) → HasPlace (at_of t j) (reduced_of t j) (ends_of t j) → IsDualFeasibleAt t j
+feasible_from : (t : State) (j : ℕ) → HasPlace (at_of t j) (reduced_of t j) (state_ends_of t j) → IsDualFeasibleAt t j
 feasible_from t j h = record {
   ordered = h.ordered;
   positive = positive_stands (at_of t j) (reduced_of t j) h.stands;
   negative = negative_stands (at_of t j) (reduced_of t j) h.stands;
-  lower = λ e. subst (λ (at : At). HasEnd at (ends_of t j)) e h.has;
-  upper = λ e. subst (λ (at : At). HasEnd at (ends_of t j)) e h.has;
-  free = λ e. subst (λ (at : At). HasEnd at (ends_of t j)) e h.has;
+  lower = λ e. subst (λ (at : At). HasEnd at (state_ends_of t j)) e h.has;
+  upper = λ e. subst (λ (at : At). HasEnd at (state_ends_of t j)) e h.has;
+  free = λ e. subst (λ (at : At). HasEnd at (state_ends_of t j)) e h.has;
 }
 
 -- ---- the column that leaves
@@ -65,9 +65,9 @@ side_of s row Basic h = h
 is_some : (o : Option ℤ) (x : ℤ) → o ≡ Some x → IsSome o
 is_some o x e = subst (λ (p : Option ℤ). IsSome p) (sym e) refl
 
-end_of : (s : State) (row : ℕ) (to : At) → IsOutsideAt s row to → HasEnd to (ends_of s (basic_of s row))
-end_of s row Lower h = is_some (ends_of s (basic_of s row)).0 h.0 h.1
-end_of s row Upper h = is_some (ends_of s (basic_of s row)).1 h.0 h.1
+end_of : (s : State) (row : ℕ) (to : At) → IsOutsideAt s row to → HasEnd to (state_ends_of s (basic_of s row))
+end_of s row Lower h = is_some (state_ends_of s (basic_of s row)).0 h.0 h.1
+end_of s row Upper h = is_some (state_ends_of s (basic_of s row)).1 h.0 h.1
 end_of s row Zero h = absurd h
 end_of s row Basic h = absurd h
 
@@ -122,29 +122,29 @@ quotient_side s t row column to h =
 at_from : (s t : State) (row column : ℕ) (to : At) (j : ℕ) → AtStep s t row column to → at_of t j ≡ slice_index_or (slice_set (slice_set s.at (basic_of s row) to) column Basic) j Zero
 at_from s t row column to j h = ap (λ (xs : List At). slice_index_or xs j Zero) h.pivot.at
 
-ends_from : (s t : State) (row column : ℕ) (to : At) (j : ℕ) → AtStep s t row column to → ends_of t j ≡ ends_of s j
+ends_from : (s t : State) (row column : ℕ) (to : At) (j : ℕ) → AtStep s t row column to → state_ends_of t j ≡ state_ends_of s j
 ends_from s t row column to j h = ap (λ (xs : List (Option ℤ × Option ℤ)). slice_index_or xs j (None, None)) h.pivot.ends
 
 -- from where a column stands, and with what reduced cost and ends
-placed : (t : State) (j : ℕ) (at : At) (d : Rational) (ends : Option ℤ × Option ℤ) → at_of t j ≡ at → reduced_of t j ≡ d → ends_of t j ≡ ends → HasPlace at d ends → HasPlace (at_of t j) (reduced_of t j) (ends_of t j)
+placed : (t : State) (j : ℕ) (at : At) (d : Rational) (ends : Option ℤ × Option ℤ) → at_of t j ≡ at → reduced_of t j ≡ d → state_ends_of t j ≡ ends → HasPlace at d ends → HasPlace (at_of t j) (reduced_of t j) (state_ends_of t j)
 placed t j at d ends ea ed ee h =
-    subst (λ (x : At). HasPlace x (reduced_of t j) (ends_of t j)) (sym ea)
-    (subst (λ (x : Rational). HasPlace at x (ends_of t j)) (sym ed) (subst (λ (x : Option ℤ × Option ℤ). HasPlace at d x) (sym ee) h))
+    subst (λ (x : At). HasPlace x (reduced_of t j) (state_ends_of t j)) (sym ea)
+    (subst (λ (x : Rational). HasPlace at x (state_ends_of t j)) (sym ed) (subst (λ (x : Option ℤ × Option ℤ). HasPlace at d x) (sym ee) h))
 
-entering_place : (s t : State) (row column : ℕ) (to : At) → AtStep s t row column to → HasPlace (at_of t column) (reduced_of t column) (ends_of t column)
+entering_place : (s t : State) (row column : ℕ) (to : At) → AtStep s t row column to → HasPlace (at_of t column) (reduced_of t column) (state_ends_of t column)
 entering_place s t row column to h =
     let long : column < length (slice_set s.at (basic_of s row) to) = omega (arith, length-set s.at (basic_of s row) to, h.board.shape.at, h.enters.within) in
-    placed t column Basic (reduced_of t column) (ends_of s column)
+    placed t column Basic (reduced_of t column) (state_ends_of s column)
     (at_from s t row column to column h ∙ get_or-set_same (slice_set s.at (basic_of s row) to) column Basic Zero long)
     refl (ends_from s t row column to column h)
     (record { ordered = (h.feasible column h.enters.within).ordered; stands = tt; has = tt })
 
-leaving_place : (s t : State) (row column : ℕ) (to : At) → AtStep s t row column to → basic_of s row ≢ column → HasPlace (at_of t (basic_of s row)) (reduced_of t (basic_of s row)) (ends_of t (basic_of s row))
+leaving_place : (s t : State) (row column : ℕ) (to : At) → AtStep s t row column to → basic_of s row ≢ column → HasPlace (at_of t (basic_of s row)) (reduced_of t (basic_of s row)) (state_ends_of t (basic_of s row))
 leaving_place s t row column to h ne =
     let b : ℕ = basic_of s row in
     let within : b < width s.frame = h.board.tableau.in_range row h.leaves.within in
     let long : b < length s.at = omega (arith, h.board.shape.at, within) in
-    placed t b to (quotient s row column) (ends_of s b)
+    placed t b to (quotient s row column) (state_ends_of s b)
     (at_from s t row column to b h ∙ get_or-set_other (slice_set s.at b to) column b Basic Zero ne ∙ get_or-set_same s.at b to Zero long)
     (h.gives b within ∙ leaving_gets (reduced_of s b) (inverse (entry_of s row column)) (entry_of s row b) (reduced_of s column) (basic_reduced s row h.board h.leaves.within) (h.board.tableau.own row h.leaves.within))
     (ends_from s t row column to b h)
@@ -154,11 +154,11 @@ leaving_place s t row column to h ne =
       has = end_of s row to h.leaves.outside;
     })
 
-other_place : (s t : State) (row column : ℕ) (to : At) (j : ℕ) → AtStep s t row column to → j < width s.frame → j ≢ column → j ≢ basic_of s row → HasPlace (at_of t j) (reduced_of t j) (ends_of t j)
+other_place : (s t : State) (row column : ℕ) (to : At) (j : ℕ) → AtStep s t row column to → j < width s.frame → j ≢ column → j ≢ basic_of s row → HasPlace (at_of t j) (reduced_of t j) (state_ends_of t j)
 other_place s t row column to j h within ne nb =
     let b : ℕ = basic_of s row in
     let was = place_of s j (h.feasible j within) in
-    placed t j (at_of s j) (add (reduced_of s j) (neg (mul (quotient s row column) (entry_of s row j)))) (ends_of s j)
+    placed t j (at_of s j) (add (reduced_of s j) (neg (mul (quotient s row column) (entry_of s row j)))) (state_ends_of s j)
     (at_from s t row column to j h ∙ get_or-set_other (slice_set s.at b to) column j Basic Zero ne ∙ get_or-set_other s.at b j to Zero nb)
     (h.gives j within ∙ other_gets (reduced_of s j) (inverse (entry_of s row column)) (entry_of s row j) (reduced_of s column))
     (ends_from s t row column to j h)
@@ -175,10 +175,10 @@ feasible_after s t row column to h j within =
     let inside : j < width s.frame = subst (λ (f : Frame). j < width f) h.pivot.same.frame within in
     feasible_from t j
     (elim (same_or_not j column) [
-      | inl e ↦ subst (λ (i : ℕ). HasPlace (at_of t i) (reduced_of t i) (ends_of t i)) (sym e) (entering_place s t row column to h)
+      | inl e ↦ subst (λ (i : ℕ). HasPlace (at_of t i) (reduced_of t i) (state_ends_of t i)) (sym e) (entering_place s t row column to h)
       | inr ne ↦
           elim (same_or_not j (basic_of s row)) [
-            | inl e ↦ subst (λ (i : ℕ). HasPlace (at_of t i) (reduced_of t i) (ends_of t i)) (sym e) (leaving_place s t row column to h (λ f. ne (e ∙ f)))
+            | inl e ↦ subst (λ (i : ℕ). HasPlace (at_of t i) (reduced_of t i) (state_ends_of t i)) (sym e) (leaving_place s t row column to h (λ f. ne (e ∙ f)))
             | inr nb ↦ other_place s t row column to j h inside ne nb
           ]
     ])

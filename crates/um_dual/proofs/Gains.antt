@@ -8,7 +8,7 @@ use Rattle.um_laws.proofs.RationalOrder.{IsNonNegative, IsPositive}
 use Rattle.um_lp.specs.Basis.{sum_below, Solves, pivot_line}
 use Rattle.um_lp.specs.Boards.{IsBoard}
 use Rattle.um_lp.specs.DualSteps.{IsStep, IsOutsideAt, CanMove, IsDualFeasible}
-use Rattle.um_lp.specs.States.{State, width, system, cost_of, basic_of, at_of, ends_of, entry_of, reduced_of, value_of, end_at, number_of_end}
+use Rattle.um_lp.specs.States.{State, width, system, cost_of, basic_of, at_of, state_ends_of, entry_of, reduced_of, value_of, end_at, number_of_end}
 use Rattle.um_lp.specs.declared.board.At.{At}
 use Rattle.um_lp.specs.declared.board.At.TheVariants.{Lower, Upper, Zero, Basic}
 use Rattle.um_lp.proofs.Acts.{pivot-gives}
@@ -62,7 +62,7 @@ mover_not_basic Zero to v h e = cc
 mover_not_basic Basic to v h e = h
 
 -- what the leaving column lacks to its end, turned to the end's side, is above 0
-pub lacks_end : (s : State) (row : ℕ) (to : At) → IsOutsideAt s row to → IsPositive (turn to (add (number_of_end (end_at to (ends_of s (basic_of s row)))) (neg (value_of s (basic_of s row)))))
+pub lacks_end : (s : State) (row : ℕ) (to : At) → IsOutsideAt s row to → IsPositive (turn to (add (number_of_end (end_at to (state_ends_of s (basic_of s row)))) (neg (value_of s (basic_of s row)))))
 lacks_end s row Lower h = subst (λ (x : Option ℤ). IsPositive (add (number_of_end x) (neg (value_of s (basic_of s row))))) (sym h.1) h.2
 lacks_end s row Upper h =
     subst (λ (x : Option ℤ). IsPositive (neg (add (number_of_end x) (neg (value_of s (basic_of s row)))))) (sym h.1)
@@ -137,7 +137,7 @@ module _ (s a b : State) (ba : IsBoard (norm s a)) (fa : IsDualFeasible (norm s 
       let same : at_of B j ≡ at_of A j = at_rest j d not_leaver in
       difference_zero (value_of B j) (value_of A j)
       (bb.values.nonbasic j l (λ e. f (sym same ∙ e))
-      ∙ ap (λ (x : At). number_of_end (end_at x (ends_of A j))) same
+      ∙ ap (λ (x : At). number_of_end (end_at x (state_ends_of A j))) same
       ∙ sym (ba.values.nonbasic j l f))
 
   -- the values after solve the rows before
@@ -173,7 +173,7 @@ module _ (s a b : State) (ba : IsBoard (norm s a)) (fa : IsDualFeasible (norm s 
   leaver_move : IsPositive (turn p.to (move leaver))
   leaver_move =
       subst (λ (z : Rational). IsPositive (turn p.to (add z (neg (value_of A leaver)))))
-      (ap (λ (x : At). number_of_end (end_at x (ends_of A leaver))) (sym at_leaver) ∙ sym (bb.values.nonbasic leaver leaver_within leaver_free))
+      (ap (λ (x : At). number_of_end (end_at x (state_ends_of A leaver))) (sym at_leaver) ∙ sym (bb.values.nonbasic leaver leaver_within leaver_free))
       (lacks_end A p.row p.to p.next.0.outside)
 
   -- what the objective gains

@@ -8,7 +8,7 @@ use Rattle.um_laws.proofs.RationalField.{num_of_zero}
 use Rattle.um_laws.proofs.RationalOrder.{IsNonNegative, IsPositive, nonneg-add, nonneg-mul, positive-mul, nonneg_of_positive}
 use Rattle.um_lp.specs.Boards.{IsBoard, AreOrdered}
 use Rattle.um_lp.specs.DualSteps.{IsNext, Pivot, Enters, ComesBefore, MayEnter, CanMove, Leaves, IsOutsideAt, IsDualFeasible, size, ratio}
-use Rattle.um_lp.specs.States.{State, width, basic_of, at_of, ends_of, entry_of, reduced_of, value_of, end_at, number_of_end}
+use Rattle.um_lp.specs.States.{State, width, basic_of, at_of, state_ends_of, entry_of, reduced_of, value_of, end_at, number_of_end}
 use Rattle.um_lp.specs.declared.board.At.{At}
 use Rattle.um_lp.specs.declared.board.At.TheVariants.{Lower, Upper, Zero, Basic}
 use Rattle.um_laws.proofs.RationalEquations.{by_ring, difference_zero}
@@ -31,7 +31,7 @@ abbrev IsWithin : At → Option ℤ × Option ℤ → Rational → Type 0
 IsWithin a ends x = (e : ℤ) → end_at a ends ≡ Some e → IsNonNegative (turn a (add x (neg (whole e))))
 
 -- where a value is outside, by its sign
-outside_from : (s : State) (row : ℕ) (a : At) (e : ℤ) → IsSide a → end_at a (ends_of s (basic_of s row)) ≡ Some e → IsPositive (neg (turn a (add (value_of s (basic_of s row)) (neg (whole e))))) → IsOutsideAt s row a
+outside_from : (s : State) (row : ℕ) (a : At) (e : ℤ) → IsSide a → end_at a (state_ends_of s (basic_of s row)) ≡ Some e → IsPositive (neg (turn a (add (value_of s (basic_of s row)) (neg (whole e))))) → IsOutsideAt s row a
 outside_from s row Lower e i h p = (e, h, subst (λ (z : Rational). IsPositive z) (by_ring (value_of s (basic_of s row) ∷ whole e ∷ []) (opp (var 0 ⊕ opp (var 1))) (var 1 ⊕ opp (var 0)) refl) p)
 outside_from s row Upper e i h p = (e, h, subst (λ (z : Rational). IsPositive z) (double (add (value_of s (basic_of s row)) (neg (whole e)))) p)
 outside_from s row Zero e i h p = absurd i
@@ -84,14 +84,14 @@ basic_or_not Zero = inr (λ e. cc)
 basic_or_not Basic = inl refl
 
 -- a column before the leaving one is within its ends
-within_before : (s : State) (row : ℕ) (to : At) → IsBoard s → IsDualFeasible s → Leaves s row to → (j : ℕ) → j < width s.frame → j < basic_of s row → (a : At) → IsSide a → IsWithin a (ends_of s j) (value_of s j)
+within_before : (s : State) (row : ℕ) (to : At) → IsBoard s → IsDualFeasible s → Leaves s row to → (j : ℕ) → j < width s.frame → j < basic_of s row → (a : At) → IsSide a → IsWithin a (state_ends_of s j) (value_of s j)
 within_before s row to b f leaves j l before a i = go (basic_or_not (at_of s j))
   where
-    go : (at_of s j ≡ Basic) ⊎ (at_of s j ≢ Basic) → IsWithin a (ends_of s j) (value_of s j)
-    go (inr nb) end h = at_end_within (at_of s j) a (ends_of s j) (value_of s j) i nb (f j l).ordered (f j l).lower (f j l).upper (f j l).free (b.values.nonbasic j l nb) end h
+    go : (at_of s j ≡ Basic) ⊎ (at_of s j ≢ Basic) → IsWithin a (state_ends_of s j) (value_of s j)
+    go (inr nb) end h = at_end_within (at_of s j) a (state_ends_of s j) (value_of s j) i nb (f j l).ordered (f j l).lower (f j l).upper (f j l).free (b.values.nonbasic j l nb) end h
     go (inl e) end h = not_negative _ (λ p. (
         let r = b.basis.found j l e in
-        let out : IsOutsideAt s r.0 a = outside_from s r.0 a end i (subst (λ (x : ℕ). end_at a (ends_of s x) ≡ Some end) (sym r.2) h) (subst (λ (x : ℕ). IsPositive (neg (turn a (add (value_of s x) (neg (whole end)))))) (sym r.2) p) in
+        let out : IsOutsideAt s r.0 a = outside_from s r.0 a end i (subst (λ (x : ℕ). end_at a (state_ends_of s x) ≡ Some end) (sym r.2) h) (subst (λ (x : ℕ). IsPositive (neg (turn a (add (value_of s x) (neg (whole end)))))) (sym r.2) p) in
         let least = leaves.least r.0 a r.1 out in
         let same = r.2 in
         absurd (omega arith)))
@@ -159,7 +159,7 @@ barred_part Upper to ends v x y j nb bars low up is within = go ends.1 refl (up 
         (subst (λ (z : Rational). IsNonNegative (neg (add y (neg z)))) (sym (is ∙ ap number_of_end q)) (within Upper tt u q)))
 
 -- the end to which a column leaves is finite
-outside_end : (s : State) (row : ℕ) (to : At) → IsOutsideAt s row to → (e : ℤ) × (end_at to (ends_of s (basic_of s row)) ≡ Some e)
+outside_end : (s : State) (row : ℕ) (to : At) → IsOutsideAt s row to → (e : ℤ) × (end_at to (state_ends_of s (basic_of s row)) ≡ Some e)
 outside_end s row Lower h = (h.0, h.1)
 outside_end s row Upper h = (h.0, h.1)
 outside_end s row Zero h = absurd h
@@ -230,9 +230,9 @@ module _ (s : State) (n : ℕ) (st : ℕ → State) (run : Run s n st) (again : 
   t_part =
       let a : At = run.to pair.q in
       let can : CanMove a to (v t) = subst (λ (x : At). CanMove x to (v t)) (sym pair.back) (subst (λ (x : ℕ). CanMove (at_of P x) to (v x)) pair.enters nextP.1.may) in
-      let x_is : value_of P t ≡ number_of_end (end_at a (ends_of s t)) = bP.values.nonbasic t t_within t_free ∙ ap (λ (x : At). number_of_end (end_at x (ends_of s t))) (sym pair.back) in
-      let lacks : IsPositive (turn a (add (number_of_end (end_at a (ends_of s t))) (neg (value_of Q t)))) =
-      subst (λ (x : ℕ). IsPositive (turn a (add (number_of_end (end_at a (ends_of s x))) (neg (value_of Q x))))) pair.leaves (lacks_end Q (run.row pair.q) a nextQ.0.outside) in
+      let x_is : value_of P t ≡ number_of_end (end_at a (state_ends_of s t)) = bP.values.nonbasic t t_within t_free ∙ ap (λ (x : At). number_of_end (end_at x (state_ends_of s t))) (sym pair.back) in
+      let lacks : IsPositive (turn a (add (number_of_end (end_at a (state_ends_of s t))) (neg (value_of Q t)))) =
+      subst (λ (x : ℕ). IsPositive (turn a (add (number_of_end (end_at a (state_ends_of s x))) (neg (value_of Q x))))) pair.leaves (lacks_end Q (run.row pair.q) a nextQ.0.outside) in
       subst (λ (z : Rational). IsPositive z) (turned_product a to (v t) (move t) back_side side)
       (positive-mul (turn a (turn to (v t))) (neg (turn a (move t))) (moves_up a to (v t) back_side side can)
       (subst (λ (z : Rational). IsPositive z)
@@ -241,7 +241,7 @@ module _ (s : State) (n : ℕ) (st : ℕ → State) (run : Run s n st) (again : 
       ∙ turn-neg a (move t))
       lacks))
 
-  within : (j : ℕ) → j < w → j < t → (a : At) → IsSide a → IsWithin a (ends_of s j) (value_of Q j)
+  within : (j : ℕ) → j < w → j < t → (a : At) → IsSide a → IsWithin a (state_ends_of s j) (value_of Q j)
   within j l before = within_before Q (run.row pair.q) (run.to pair.q) bQ fQ nextQ.0 j l (subst (λ (x : ℕ). j < x) (sym pair.leaves) before)
 
   -- the column that leaves at p
@@ -322,7 +322,7 @@ module _ (s : State) (n : ℕ) (st : ℕ → State) (run : Run s n st) (again : 
 
       go : (reduced_of P j ≡ whole (pos 0)) ⊎ (IsPositive (reduced_of P j) ⊎ ((reduced_of P j).num <ℤ pos 0)) → IsNonNegative (neg (mul (turn to (v j)) (move j)))
       go (inl e) =
-          barred_part (at_of P j) to (ends_of s j) (v j) (value_of P j) (value_of Q j) side nb
+          barred_part (at_of P j) to (state_ends_of s j) (v j) (value_of P j) (value_of Q j) side nb
           (none_before P r to (run.column pair.p) nextP.1 t_zero j lj (subst (λ (x : ℕ). j < x) (sym pair.enters) before) e)
           (fP j lj).lower (fP j lj).upper (bP.values.nonbasic j lj nb) (within j lj before)
       go (inr (inl p)) =

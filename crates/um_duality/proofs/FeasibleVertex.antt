@@ -60,13 +60,13 @@ free-inside ends value e = record {
   high = λ x f. (let g : None ≡ Some x = sym (ap (λ (p : Option ℤ × Option ℤ). p.1) e) ∙ f in absurd (cc));
 }
 
-nonbasic-inside : (s : State) (j : ℕ) → IsDualFeasibleAt s j → (a : At) → at_of s j ≡ a → a ≢ Basic → value_of s j ≡ number_of_end (end_at a (lp.ends_of s j)) → IsInside (lp.ends_of s j) (value_of s j)
-nonbasic-inside s j feasible Lower is nonbasic v = let l = some_of (lp.ends_of s j).0 (feasible.lower is) in low-inside (lp.ends_of s j) (value_of s j) l.0 feasible.ordered l.1 (v ∙ ap number_of_end l.1)
-nonbasic-inside s j feasible Upper is nonbasic v = let h = some_of (lp.ends_of s j).1 (feasible.upper is) in high-inside (lp.ends_of s j) (value_of s j) h.0 feasible.ordered h.1 (v ∙ ap number_of_end h.1)
-nonbasic-inside s j feasible Zero is nonbasic v = free-inside (lp.ends_of s j) (value_of s j) (feasible.free is)
+nonbasic-inside : (s : State) (j : ℕ) → IsDualFeasibleAt s j → (a : At) → at_of s j ≡ a → a ≢ Basic → value_of s j ≡ number_of_end (end_at a (lp.state_ends_of s j)) → IsInside (lp.state_ends_of s j) (value_of s j)
+nonbasic-inside s j feasible Lower is nonbasic v = let l = some_of (lp.state_ends_of s j).0 (feasible.lower is) in low-inside (lp.state_ends_of s j) (value_of s j) l.0 feasible.ordered l.1 (v ∙ ap number_of_end l.1)
+nonbasic-inside s j feasible Upper is nonbasic v = let h = some_of (lp.state_ends_of s j).1 (feasible.upper is) in high-inside (lp.state_ends_of s j) (value_of s j) h.0 feasible.ordered h.1 (v ∙ ap number_of_end h.1)
+nonbasic-inside s j feasible Zero is nonbasic v = free-inside (lp.state_ends_of s j) (value_of s j) (feasible.free is)
 nonbasic-inside s j feasible Basic is nonbasic v = absurd (nonbasic refl)
 
-basic-inside : (s : State) (row : ℕ) → ((side : At) → ¬ IsOutsideAt s row side) → IsInside (lp.ends_of s (basic_of s row)) (value_of s (basic_of s row))
+basic-inside : (s : State) (row : ℕ) → ((side : At) → ¬ IsOutsideAt s row side) → IsInside (lp.state_ends_of s (basic_of s row)) (value_of s (basic_of s row))
 basic-inside s row none = record {
   low = λ l e. not_below (whole l) (value_of s (basic_of s row)) (λ h. none Lower (l, e, h));
   high = λ l e. not_below (value_of s (basic_of s row)) (whole l) (λ h. none Upper (l, e, h));
@@ -125,14 +125,14 @@ module _ (d : DeckValue) (b : BoxValue) (s : State) (on : IsOnBox d b s) (ended 
       let h : IsPositive thousandth = factor-above thousand thousandth (whole-positive (pos 1000) (omega (arith, ints))) (subst IsPositive (sym thousand-times) (whole-positive (pos 1) (omega (arith, ints)))) in
       omega (arith, ints)
 
-  inside : (j : ℕ) → j < width s.frame → IsInside (lp.ends_of s j) (value_of s j)
+  inside : (j : ℕ) → j < width s.frame → IsInside (lp.state_ends_of s j) (value_of s j)
   inside j l = go (at_of s j) refl
     where
-      not_basic : (a : At) → at_of s j ≡ a → a ≢ Basic → IsInside (lp.ends_of s j) (value_of s j)
-      not_basic a is nonbasic = nonbasic-inside s j (on.feasible j l) a is nonbasic (on.board.values.nonbasic j l (λ e. nonbasic (sym is ∙ e)) ∙ ap (λ (x : At). number_of_end (end_at x (lp.ends_of s j))) is)
+      not_basic : (a : At) → at_of s j ≡ a → a ≢ Basic → IsInside (lp.state_ends_of s j) (value_of s j)
+      not_basic a is nonbasic = nonbasic-inside s j (on.feasible j l) a is nonbasic (on.board.values.nonbasic j l (λ e. nonbasic (sym is ∙ e)) ∙ ap (λ (x : At). number_of_end (end_at x (lp.state_ends_of s j))) is)
 
-      go : (a : At) → at_of s j ≡ a → IsInside (lp.ends_of s j) (value_of s j)
-      go Basic is = let f = on.board.basis.found j l is in subst (λ (x : ℕ). IsInside (lp.ends_of s x) (value_of s x)) f.2 (basic-inside s f.0 (λ side. ended f.0 side f.1))
+      go : (a : At) → at_of s j ≡ a → IsInside (lp.state_ends_of s j) (value_of s j)
+      go Basic is = let f = on.board.basis.found j l is in subst (λ (x : ℕ). IsInside (lp.state_ends_of s x) (value_of s x)) f.2 (basic-inside s f.0 (λ side. ended f.0 side f.1))
       go Lower is = not_basic Lower is (λ e. cc)
       go Upper is = not_basic Upper is (λ e. cc)
       go Zero is = not_basic Zero is (λ e. cc)

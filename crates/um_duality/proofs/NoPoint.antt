@@ -9,7 +9,7 @@ use Rattle.um_model.specs.Values.{DeckValue}
 use Rattle.um_model.specs.Boxes.{BoxValue}
 use Rattle.um_model.specs.LeafValue.{leaf_total, Empties}
 use Rattle.um_lp.specs.Basis.{sum_below}
-use Rattle.um_lp.specs.States.{State, width, slack, system, cost_of, basic_of, at_of, ends_of, entry_of, value_of}
+use Rattle.um_lp.specs.States.{State, width, slack, system, cost_of, basic_of, at_of, state_ends_of, entry_of, value_of}
 use Rattle.um_lp.specs.DualSteps.{IsOutsideAt, Leaves, CanMove, MayEnter}
 use Rattle.um_lp.specs.declared.board.At.{At}
 use Rattle.um_lp.specs.declared.board.At.TheVariants.{Lower, Upper, Zero, Basic}
@@ -53,7 +53,7 @@ record IsBroken (to : At) (ends : Option ℤ × Option ℤ) (value : Rational) :
 one_above : IsPositive (whole (pos 1))
 one_above = whole-positive (pos 1) (omega (arith, ints))
 
-broken : (s : State) (row : ℕ) (to : At) → IsOutsideAt s row to → IsBroken to (ends_of s (basic_of s row)) (value_of s (basic_of s row))
+broken : (s : State) (row : ℕ) (to : At) → IsOutsideAt s row to → IsBroken to (state_ends_of s (basic_of s row)) (value_of s (basic_of s row))
 broken s row Lower h = record {
   end = h.0;
   takes = record { above = λ p. (h.0, h.1, refl); under = λ p. absurd (not_both (whole (pos 1)) one_above (subst IsPositive (by_ring [] (opp (opp (opp unit))) (opp unit) refl) p)) };
@@ -131,7 +131,7 @@ module _ (d : DeckValue) (b : BoxValue) (s : State) (row : ℕ) (on : IsOnBox d 
   abbrev own : ℕ
   own = basic_of s row
 
-  abbrev out : IsBroken to (ends_of s own) (value_of s own)
+  abbrev out : IsBroken to (state_ends_of s own) (value_of s own)
   out = broken s row to leaves.outside
 
   -- the basic column counts at the end that it is outside of
@@ -159,25 +159,25 @@ module _ (d : DeckValue) (b : BoxValue) (s : State) (row : ℕ) (on : IsOnBox d 
         ∙ ap (λ (x : Rational). mul x (system s i j)) (sym (factor-is (slack s.frame i)))));
   }
 
-  takes-own : Takes (factor own) (ends_of s own) (whole out.end)
-  takes-own = subst (λ (x : Rational). Takes x (ends_of s own) (whole out.end)) (sym factor-own) (takes-scaled k (turned to minus_one) (whole out.end) (ends_of s own) are.positive out.takes)
+  takes-own : Takes (factor own) (state_ends_of s own) (whole out.end)
+  takes-own = subst (λ (x : Rational). Takes x (state_ends_of s own) (whole out.end)) (sym factor-own) (takes-scaled k (turned to minus_one) (whole out.end) (state_ends_of s own) are.positive out.takes)
 
-  takes-other : (j : ℕ) → j < width s.frame → j ≢ own → Takes (factor j) (ends_of s j) (value_of s j)
-  takes-other j l ne = takes-scaled k (turned to (e j)) (value_of s j) (ends_of s j) are.positive (go (basic-or-not (at_of s j)))
+  takes-other : (j : ℕ) → j < width s.frame → j ≢ own → Takes (factor j) (state_ends_of s j) (value_of s j)
+  takes-other j l ne = takes-scaled k (turned to (e j)) (value_of s j) (state_ends_of s j) are.positive (go (basic-or-not (at_of s j)))
     where
-      go : (at_of s j ≡ Basic) ⊎ (at_of s j ≢ Basic) → Takes (turned to (e j)) (ends_of s j) (value_of s j)
+      go : (at_of s j ≡ Basic) ⊎ (at_of s j ≢ Basic) → Takes (turned to (e j)) (state_ends_of s j) (value_of s j)
       go (inl h) =
           let f = on.board.basis.found j l h in
-          takes-none (turned to (e j)) (value_of s j) (ends_of s j) (turned-zero to (e j)
+          takes-none (turned to (e j)) (value_of s j) (state_ends_of s j) (turned-zero to (e j)
           (ap e (sym f.2) ∙ on.board.tableau.others row f.0 leaves.within f.1 (λ q. ne (sym f.2 ∙ ap (basic_of s) (sym q)))))
       go (inr h) =
           takes-end s j (turned to (e j)) l on.board.values (on.feasible j l) h
           (stands-low (at_of s j) to (e j) (side_of s row to leaves.outside) (none j l) h)
           (stands-high (at_of s j) to (e j) (side_of s row to leaves.outside) (none j l) h)
 
-  takes-all : (j : ℕ) → j < width s.frame → Takes (factor j) (ends_of s j) (value j)
-  takes-all j l = by_row (λ t. Takes (factor j) (ends_of s j) (cond t (whole out.end) (value_of s j))) j own
-      (λ h. subst (λ (x : ℕ). Takes (factor x) (ends_of s x) (whole out.end)) (sym h) takes-own) (λ h. takes-other j l h)
+  takes-all : (j : ℕ) → j < width s.frame → Takes (factor j) (state_ends_of s j) (value j)
+  takes-all j l = by_row (λ t. Takes (factor j) (state_ends_of s j) (cond t (whole out.end) (value_of s j))) j own
+      (λ h. subst (λ (x : ℕ). Takes (factor x) (state_ends_of s x) (whole out.end)) (sym h) takes-own) (λ h. takes-other j l h)
 
   priced : IsPriced d b (pos 0) numbers factor value
   priced = priced-board d b s (pos 0) numbers factor value on (λ j l. by_ring (whole (column_at d j).cost ∷ cost_of s j ∷ []) (nought ⊗ var 0) (nought ⊗ var 1) refl) combined takes-all

@@ -8,7 +8,7 @@ use Rattle.um_model.specs.Values.{DeckValue}
 use Rattle.um_model.specs.Feasible.{coefficient}
 use Rattle.um_model.specs.Boxes.{BoxValue}
 use Rattle.um_lp.specs.Basis.{sum_below}
-use Rattle.um_lp.specs.States.{State, width, slack, system, cost_of, at_of, ends_of, value_of, end_at, number_of_end}
+use Rattle.um_lp.specs.States.{State, width, slack, system, cost_of, at_of, state_ends_of, value_of, end_at, number_of_end}
 use Rattle.um_lp.specs.Boards.{AreValues}
 use Rattle.um_lp.specs.DualSteps.{IsDualFeasibleAt}
 use Rattle.um_lp.specs.declared.board.At.{At}
@@ -38,10 +38,10 @@ end_value value end o e f some = let x = some_of end some in (x.0, x.1, e ∙ ap
 
 -- a nonbasic column stands at the end that its factor takes
 pub takes-end : (s : State) (j : ℕ) (factor : Rational) → j < width s.frame → AreValues s → IsDualFeasibleAt s j → at_of s j ≢ Basic
-    → (IsPositive factor → at_of s j ≡ Lower) → (IsPositive (neg factor) → at_of s j ≡ Upper) → Takes factor (ends_of s j) (value_of s j)
+    → (IsPositive factor → at_of s j ≡ Lower) → (IsPositive (neg factor) → at_of s j ≡ Upper) → Takes factor (state_ends_of s j) (value_of s j)
 takes-end s j factor l values feasible nonbasic above under = record {
-  above = λ p. end_value (value_of s j) (ends_of s j).0 (end_at (at_of s j) (ends_of s j)) (values.nonbasic j l nonbasic) (ap (λ (a : At). end_at a (ends_of s j)) (above p)) (feasible.lower (above p));
-  under = λ p. end_value (value_of s j) (ends_of s j).1 (end_at (at_of s j) (ends_of s j)) (values.nonbasic j l nonbasic) (ap (λ (a : At). end_at a (ends_of s j)) (under p)) (feasible.upper (under p));
+  above = λ p. end_value (value_of s j) (state_ends_of s j).0 (end_at (at_of s j) (state_ends_of s j)) (values.nonbasic j l nonbasic) (ap (λ (a : At). end_at a (state_ends_of s j)) (above p)) (feasible.lower (above p));
+  under = λ p. end_value (value_of s j) (state_ends_of s j).1 (end_at (at_of s j) (state_ends_of s j)) (values.nonbasic j l nonbasic) (ap (λ (a : At). end_at a (state_ends_of s j)) (under p)) (feasible.upper (under p));
 }
 
 pub basic-or-not : (a : At) → (a ≡ Basic) ⊎ (a ≢ Basic)
@@ -63,7 +63,7 @@ abbrev pub HasCostsTimes : DeckValue → State → ℤ → Type 0
 HasCostsTimes d s y0 = (j : ℕ) → j < length d.columns → mul (whole y0) (whole (column_at d j).cost) ≡ mul (whole y0) (cost_of s j)
 
 pub priced-board : (d : DeckValue) (b : BoxValue) (s : State) (y0 : ℤ) (numbers : List ℤ) (factor value : ℕ → Rational) → IsOnBox d b s → HasCostsTimes d s y0 → IsCombined s y0 numbers factor
-    → ((j : ℕ) → j < width s.frame → Takes (factor j) (ends_of s j) (value j)) → IsPriced d b y0 numbers factor value
+    → ((j : ℕ) → j < width s.frame → Takes (factor j) (state_ends_of s j) (value j)) → IsPriced d b y0 numbers factor value
 priced-board d b s y0 numbers factor value on costs combined takes =
     let rows : s.frame.rows ≡ length d.rows = rows-is d s on.stands in
     let wide : width s.frame ≡ length d.columns + length d.rows = width-is d s on.stands in

@@ -13,7 +13,7 @@ use Rattle.um_model.specs.Boxes.{BoxValue}
 use Rattle.um_model.specs.Objective.{cost_sum, objective, objective_times}
 use Rattle.um_model.specs.LeafValue.{leaf_total, leaf_bound}
 use Rattle.um_lp.specs.Basis.{sum_below}
-use Rattle.um_lp.specs.States.{State, width, slack, system, cost_of, at_of, ends_of, reduced_of, value_of}
+use Rattle.um_lp.specs.States.{State, width, slack, system, cost_of, at_of, state_ends_of, reduced_of, value_of}
 use Rattle.um_lp.specs.WideStates.{common_denominator}
 use Rattle.um_lp.specs.declared.board.At.TheVariants.{Basic}
 use Rattle.um_lp.specs.declared.board.Costs.TheVariants.{Given}
@@ -75,13 +75,13 @@ module _ (d : DeckValue) (b : BoxValue) (s : State) (on : IsOnBox d b s) (given 
         ∙ sum-cong s.frame.rows _ _ (λ i q. by_ring (k ∷ reduced_of s (slack s.frame i) ∷ system s i j ∷ []) (var 0 ⊗ (var 1 ⊗ var 2)) ((var 0 ⊗ var 1) ⊗ var 2) refl));
   }
 
-  takes-all : (j : ℕ) → j < w → Takes (factor j) (ends_of s j) (value_of s j)
+  takes-all : (j : ℕ) → j < w → Takes (factor j) (state_ends_of s j) (value_of s j)
   takes-all j l = go (basic-or-not (at_of s j))
     where
-      go : (at_of s j ≡ Basic) ⊎ (at_of s j ≢ Basic) → Takes (factor j) (ends_of s j) (value_of s j)
+      go : (at_of s j ≡ Basic) ⊎ (at_of s j ≢ Basic) → Takes (factor j) (state_ends_of s j) (value_of s j)
       go (inl h) =
           let f = on.board.basis.found j l h in
-          takes-none (factor j) (value_of s j) (ends_of s j) (ap (mul k) (ap (reduced_of s) (sym f.2)
+          takes-none (factor j) (value_of s j) (state_ends_of s j) (ap (mul k) (ap (reduced_of s) (sym f.2)
           ∙ reduced-basic s.frame.rows w (length s.frame.columns) _ _ _ on.board.tableau (cost_of s) (reduced_of s) on.board.reduced f.0 f.1)
           ∙ by_ring (k ∷ []) (var 0 ⊗ nought) nought refl)
       go (inr h) =

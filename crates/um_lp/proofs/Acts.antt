@@ -7,7 +7,7 @@ use Rattle.um_laws.proofs.Ring.{var, ◌⊕◌, opp}
 use Rattle.um_laws.specs.Rational.{Rational, whole, add, mul, neg, inverse}
 use Rattle.um_lp.specs.Basis.{TableauOf, Solves, pivot_line, pivot_entry, pivot_basic}
 use Rattle.um_lp.specs.Boards.{IsShaped, IsBoard, SameRows, IsFinite, IsPivot, resting_with, stays_or, StandsAt, IsRebox}
-use Rattle.um_lp.specs.States.{State, width, system, cost_of, basic_of, at_of, ends_of, entry_of, reduced_of, value_of, end_at, number_of_end}
+use Rattle.um_lp.specs.States.{State, width, system, cost_of, basic_of, at_of, state_ends_of, entry_of, reduced_of, value_of, end_at, number_of_end}
 use Rattle.um_lp.specs.declared.board.At.{At}
 use Rattle.um_lp.specs.declared.board.At.TheVariants.{Lower, Upper, Zero, Basic}
 use Rattle.um_laws.proofs.RationalEquations.{by_ring, over_is}
@@ -22,7 +22,7 @@ use Rattle.um_lp.proofs.Values.{IsMoved, values-pivot, values-rebox}
 
 -- the number of the end to which the basic column of a row leaves
 abbrev pub leaving_end : State → ℕ → At → Rational
-leaving_end s row to = number_of_end (end_at to (ends_of s (basic_of s row)))
+leaving_end s row to = number_of_end (end_at to (state_ends_of s (basic_of s row)))
 
 -- by how much the entering column rises: what the leaving column lacks to its end, over the entry
 abbrev pub entering_rise : State → ℕ → ℕ → At → Rational
@@ -113,7 +113,7 @@ module _ (row column : ℕ) (to : At) (s t : State) (b : IsBoard s) (lr : row < 
           let r = b.basis.found j l (sym (at_other j d f) ∙ e) in
           (r.0, r.1, basic_other r.0 (λ q. f (sym r.2 ∙ ap (basic_of s) q)) ∙ r.2)
 
-  module _ (ne : entry_of s row column ≢ whole (pos 0)) (finite : IsFinite to (ends_of s (basic_of s row))) (h : HasPivotedParts row column to s t) where
+  module _ (ne : entry_of s row column ≢ whole (pos 0)) (finite : IsFinite to (state_ends_of s (basic_of s row))) (h : HasPivotedParts row column to s t) where
     same_state : t ≡ pivoted s row column to t
     same_state = λ i. record {
       frame = h.same.frame i;
@@ -157,23 +157,23 @@ module _ (row column : ℕ) (to : At) (s t : State) (b : IsBoard s) (lr : row < 
         ∙ sym (reduced-pivot s.frame.rows (cost_of s) (basic_of s) (entry_of s) row column j lr ne)
         ∙ sym (reduced-same s.frame.rows (cost_of s) (pivot_basic (basic_of s) row column) _ (pivot_entry (entry_of s) row column) (entry_of t) j (λ i p. now_basic i) (λ i p. h.entries i j p l))
 
-    nonbasic_new : (j : ℕ) → j < width s.frame → now_at j ≢ Basic → value_of t j ≡ number_of_end (end_at (now_at j) (ends_of s j))
+    nonbasic_new : (j : ℕ) → j < width s.frame → now_at j ≢ Basic → value_of t j ≡ number_of_end (end_at (now_at j) (state_ends_of s j))
     nonbasic_new j l d = go (same_or_not j column) (same_or_not j (basic_of s row))
       where
-        go : (j ≡ column) ⊎ (j ≢ column) → (j ≡ basic_of s row) ⊎ (j ≢ basic_of s row) → value_of t j ≡ number_of_end (end_at (now_at j) (ends_of s j))
+        go : (j ≡ column) ⊎ (j ≢ column) → (j ≡ basic_of s row) ⊎ (j ≢ basic_of s row) → value_of t j ≡ number_of_end (end_at (now_at j) (state_ends_of s j))
         go (inl q) r = absurd (d (ap now_at q ∙ at_column))
         go (inr p) (inl q) =
             ap (value_of t) q ∙ h.values.leaving
-            ∙ ap (λ (x : At). number_of_end (end_at x (ends_of s (basic_of s row)))) (sym at_left)
-            ∙ ap (λ (x : ℕ). number_of_end (end_at (now_at x) (ends_of s x))) (sym q)
+            ∙ ap (λ (x : At). number_of_end (end_at x (state_ends_of s (basic_of s row)))) (sym at_left)
+            ∙ ap (λ (x : ℕ). number_of_end (end_at (now_at x) (state_ends_of s x))) (sym q)
         go (inr p) (inr q) =
             let before : at_of s j ≢ Basic = λ e. d (at_other j p q ∙ e) in
             h.values.rest j l p (λ i li e. before (sym (ap (at_of s) e) ∙ b.basis.named i li))
             ∙ b.values.nonbasic j l before
-            ∙ ap (λ (x : At). number_of_end (end_at x (ends_of s j))) (sym (at_other j p q))
+            ∙ ap (λ (x : At). number_of_end (end_at x (state_ends_of s j))) (sym (at_other j p q))
 
     not_basic : to ≢ Basic
-    not_basic e = let f = subst (λ (x : At). IsFinite x (ends_of s (basic_of s row))) e finite in absurd (cc)
+    not_basic e = let f = subst (λ (x : At). IsFinite x (state_ends_of s (basic_of s row))) e finite in absurd (cc)
 
     board_new : IsBoard (pivoted s row column to t)
     board_new = record {
@@ -275,7 +275,7 @@ module _ (column : ℕ) (given : Option ℤ × Option ℤ) (s t : State) (b : Is
   at_rest : (j : ℕ) → j ≢ column → at_new j ≡ at_of s j
   at_rest j d = get_or-set_other s.at column j (at_of t column) Zero d
 
-  ends_rest : (j : ℕ) → j ≢ column → ends_new j ≡ ends_of s j
+  ends_rest : (j : ℕ) → j ≢ column → ends_new j ≡ state_ends_of s j
   ends_rest j d = get_or-set_other s.ends column j given (None, None) d
 
   -- the same columns are basic
@@ -319,7 +319,7 @@ module _ (column : ℕ) (given : Option ℤ × Option ℤ) (s t : State) (b : Is
           ∙ ap (λ (x : ℕ). number_of_end (end_at (at_new x) (ends_new x))) (sym q)
       go (inr q) =
           value_rest j l q before ∙ b.values.nonbasic j l before
-          ∙ ap (λ (x : At). number_of_end (end_at x (ends_of s j))) (sym (at_rest j q))
+          ∙ ap (λ (x : At). number_of_end (end_at x (state_ends_of s j))) (sym (at_rest j q))
           ∙ ap (λ (x : Option ℤ × Option ℤ). number_of_end (end_at (at_new j) x)) (sym (ends_rest j q))
 
   solves_rebox : Solves s.frame.rows (width s.frame) (entry_of s) (value_of t)

@@ -12,7 +12,7 @@ use Rattle.um_laws.proofs.RationalEquations.{by_ring}
 use Rattle.um_lp.specs.Basis.{pivot_line, pivot_entry}
 use Rattle.um_lp.specs.Boards.{IsBoard, IsFinite, IsPivot, IsRebox, StandsAt, resting}
 use Rattle.um_num.specs.NumberLists.{number_at}
-use Rattle.um_lp.specs.States.{State, width, basic_of, at_of, ends_of, entry_of, reduced_of, value_of, end_at, number_of_end}
+use Rattle.um_lp.specs.States.{State, width, basic_of, at_of, state_ends_of, entry_of, reduced_of, value_of, end_at, number_of_end}
 use Rattle.um_lp.specs.declared.board.At.{At}
 use Rattle.um_lp.specs.declared.board.At.TheVariants.{Lower, Upper, Zero, Basic}
 use Rattle.um_lp.proofs.Acts.{leaving_end, entering_rise, HasPivotedParts, IsBoard-pivot, HasReboxedParts, HasReboxedValues, IsBoard-rebox}
@@ -157,7 +157,7 @@ module _ (s : State) (row column : ℕ) (to : At) (b : IsBoard s) (lr : row < s.
   }
 
 -- each pivot leads to a state
-pub pivot_leads : (s : State) (row column : ℕ) (to : At) → IsBoard s → row < s.frame.rows → column < width s.frame → at_of s column ≢ Basic → entry_of s row column ≢ whole (pos 0) → IsFinite to (ends_of s (basic_of s row))
+pub pivot_leads : (s : State) (row column : ℕ) (to : At) → IsBoard s → row < s.frame.rows → column < width s.frame → at_of s column ≢ Basic → entry_of s row column ≢ whole (pos 0) → IsFinite to (state_ends_of s (basic_of s row))
     → IsPivot row column to s (after_pivot s row column to)
 pivot_leads s row column to b lr lk free ne finite = IsBoard-pivot row column to s (after_pivot s row column to) b lr lk free ne finite (pivoted_parts s row column to b lr lk free)
 

@@ -4,7 +4,7 @@ use Rattle.std.specs.Prelude.{ℤ, ◌≤ℤ◌}
 use Rattle.um_num.specs.Fractions.{IsBelow}
 use Rattle.um_lp.specs.Boards.{IsBoard, AreOrdered}
 use Rattle.um_lp.specs.DualSteps.{IsOutsideAt, Leaves, MayEnter, Enters, ComesBefore, ratio, Next, Ended, NoPoint, Pivot, IsNext}
-use Rattle.um_lp.specs.States.{State, width, basic_of, ends_of, value_of}
+use Rattle.um_lp.specs.States.{State, width, basic_of, state_ends_of, value_of}
 use Rattle.um_lp.specs.declared.board.At.{At}
 use Rattle.um_lp.specs.declared.board.At.TheVariants.{Lower, Upper, Zero, Basic}
 use Rattle.um_lp.proofs.Orders.{below_self, below_each, not_outside_both}
@@ -16,10 +16,10 @@ ends_ordered : (ends : Option ℤ × Option ℤ) (low high : ℤ) → ends.0 ≡
 ends_ordered ends low high p q h = h low p high q
 
 -- a column is outside on one side alone
-pub one_side : (s : State) (row : ℕ) (a b : At) → AreOrdered (ends_of s (basic_of s row)) → IsOutsideAt s row a → IsOutsideAt s row b → a ≡ b
+pub one_side : (s : State) (row : ℕ) (a b : At) → AreOrdered (state_ends_of s (basic_of s row)) → IsOutsideAt s row a → IsOutsideAt s row b → a ≡ b
 one_side s row Lower Lower o h k = refl
-one_side s row Lower Upper o h k = absurd (not_outside_both (value_of s (basic_of s row)) h.0 k.0 (ends_ordered (ends_of s (basic_of s row)) h.0 k.0 h.1 k.1 o) h.2 k.2)
-one_side s row Upper Lower o h k = absurd (not_outside_both (value_of s (basic_of s row)) k.0 h.0 (ends_ordered (ends_of s (basic_of s row)) k.0 h.0 k.1 h.1 o) k.2 h.2)
+one_side s row Lower Upper o h k = absurd (not_outside_both (value_of s (basic_of s row)) h.0 k.0 (ends_ordered (state_ends_of s (basic_of s row)) h.0 k.0 h.1 k.1 o) h.2 k.2)
+one_side s row Upper Lower o h k = absurd (not_outside_both (value_of s (basic_of s row)) k.0 h.0 (ends_ordered (state_ends_of s (basic_of s row)) k.0 h.0 k.1 h.1 o) k.2 h.2)
 one_side s row Upper Upper o h k = refl
 one_side s row Zero b o h k = absurd h
 one_side s row Basic b o h k = absurd h
@@ -35,7 +35,7 @@ one_leaving_row s r q a b board h k =
     same_row _ _ _ _ _ _ board.tableau r q h.within k.within (omega arith)
 
 -- where the ends are in order, to one end
-pub one_leaving_end : (s : State) (r q : ℕ) (a b : At) → IsBoard s → ((column : ℕ) → column < width s.frame → AreOrdered (ends_of s column)) → Leaves s r a → Leaves s q b → a ≡ b
+pub one_leaving_end : (s : State) (r q : ℕ) (a b : At) → IsBoard s → ((column : ℕ) → column < width s.frame → AreOrdered (state_ends_of s column)) → Leaves s r a → Leaves s q b → a ≡ b
 one_leaving_end s r q a b board ordered h k =
     one_side s r a b (ordered (basic_of s r) (board.tableau.in_range r h.within)) h.outside
     (subst (λ (x : ℕ). IsOutsideAt s x b) (sym (one_leaving_row s r q a b board h k)) k.outside)
@@ -53,7 +53,7 @@ one_entering_column s row to a b h k = first_of_two s row a b (h.least b k.withi
 
 -- ---- the next step
 
-module _ (s : State) (board : IsBoard s) (ordered : (column : ℕ) → column < width s.frame → AreOrdered (ends_of s column)) where
+module _ (s : State) (board : IsBoard s) (ordered : (column : ℕ) → column < width s.frame → AreOrdered (state_ends_of s column)) where
   -- with no column that may enter there is no pivot
   no_pivot : (r q column : ℕ) (a b : At) → Leaves s r a → ((column : ℕ) → column < width s.frame → ¬ MayEnter s r a column) → Leaves s q b → Enters s q b column → ⊥
   no_pivot r q column a b h none k enters =
@@ -69,7 +69,7 @@ module _ (s : State) (board : IsBoard s) (ordered : (column : ℕ) → column < 
       cc
 
 -- where the low end of each column is at most its high end, what comes next is one thing
-pub one_next : (s : State) (a b : Next) → IsBoard s → ((column : ℕ) → column < width s.frame → AreOrdered (ends_of s column)) → IsNext s a → IsNext s b → a ≡ b
+pub one_next : (s : State) (a b : Next) → IsBoard s → ((column : ℕ) → column < width s.frame → AreOrdered (state_ends_of s column)) → IsNext s a → IsNext s b → a ≡ b
 one_next s Ended Ended board ordered h k = refl
 one_next s Ended (NoPoint row) board ordered h k = absurd (h row k.0 k.1.within k.1.outside)
 one_next s Ended (Pivot row column to) board ordered h k = absurd (h row to k.0.within k.0.outside)

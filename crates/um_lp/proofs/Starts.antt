@@ -5,7 +5,7 @@ use Rattle.um_laws.proofs.Ring.{var, nought, unit, ◌⊕◌, ◌⊗◌, opp}
 use Rattle.um_laws.specs.Rational.{Rational, whole, add, mul, neg}
 use Rattle.um_lp.specs.Basis.{sum_below, TableauOf, Solves}
 use Rattle.um_lp.specs.Boards.{IsShaped, IsBoard, IsStart, IsReset}
-use Rattle.um_lp.specs.States.{State, Frame, ColumnData, no_data, data_of, coefficient, charge, width, slack, system, cost_of, basic_of, at_of, ends_of, entry_of, reduced_of, value_of, end_at, number_of_end}
+use Rattle.um_lp.specs.States.{State, Frame, ColumnData, no_data, data_of, coefficient, charge, width, slack, system, cost_of, basic_of, at_of, state_ends_of, entry_of, reduced_of, value_of, end_at, number_of_end}
 use Rattle.um_lp.specs.declared.board.At.{At}
 use Rattle.um_lp.specs.declared.board.At.TheVariants.{Lower, Basic}
 use Rattle.um_lp.specs.declared.board.Costs.{Costs}
@@ -60,7 +60,7 @@ pub record HasSlackBasis (s : State) : Type 0 where
   pub slacks : (row : ℕ) → row < s.frame.rows → at_of s (slack s.frame row) ≡ Basic
   pub before : (column : ℕ) → column < length s.frame.columns → at_of s column ≡ Lower
   pub behind : (column : ℕ) → slack s.frame s.frame.rows ≤ column → column < width s.frame → at_of s column ≡ Lower
-  pub ends : (column : ℕ) → column < width s.frame → ends_of s column ≡ (Some (pos 0), Some (pos 0))
+  pub ends : (column : ℕ) → column < width s.frame → state_ends_of s column ≡ (Some (pos 0), Some (pos 0))
   pub entries : (row column : ℕ) → row < s.frame.rows → column < width s.frame → entry_of s row column ≡ system s row column
   pub reduced : (column : ℕ) → column < width s.frame → reduced_of s column ≡ cost_of s column
   pub values : (column : ℕ) → column < width s.frame → value_of s column ≡ whole (pos 0)
@@ -112,10 +112,10 @@ module _ (s : State) (h : HasSlackBasis s) where
       go (inl p) = p
       go (inr r) = absurd (d (sym (ap (at_of s) r.2) ∙ h.slacks r.0 r.1))
 
-  nonbasic_start : (column : ℕ) → column < width s.frame → at_of s column ≢ Basic → value_of s column ≡ number_of_end (end_at (at_of s column) (ends_of s column))
+  nonbasic_start : (column : ℕ) → column < width s.frame → at_of s column ≢ Basic → value_of s column ≡ number_of_end (end_at (at_of s column) (state_ends_of s column))
   nonbasic_start column l d =
       h.values column l
-      ∙ sym (ap (λ (x : At). number_of_end (end_at x (ends_of s column))) (lower_start column l d)
+      ∙ sym (ap (λ (x : At). number_of_end (end_at x (state_ends_of s column))) (lower_start column l d)
       ∙ ap (λ (x : Option ℤ × Option ℤ). number_of_end (end_at Lower x)) (h.ends column l))
 
   pub IsBoard-start : IsBoard s
@@ -144,7 +144,7 @@ IsReset-start taken s t hf hp hc h = record {
   costs = hc;
   basic = subst (λ (f : Frame). (row : ℕ) → row < f.rows → basic_of t row ≡ slack f row) hf h.basic;
   nonbasic = subst (λ (f : Frame). (column : ℕ) → column < width f → at_of t column ≢ Basic → at_of t column ≡ Lower) hf (lower_start t h);
-  ends = subst (λ (f : Frame). (column : ℕ) → column < width f → ends_of t column ≡ (Some (pos 0), Some (pos 0))) hf h.ends;
+  ends = subst (λ (f : Frame). (column : ℕ) → column < width f → state_ends_of t column ≡ (Some (pos 0), Some (pos 0))) hf h.ends;
   values = subst (λ (f : Frame). (column : ℕ) → column < width f → value_of t column ≡ whole (pos 0)) hf h.values;
   board = IsBoard-start t h;
 }

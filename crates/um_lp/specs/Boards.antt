@@ -3,7 +3,7 @@ use Rattle.std.specs.Prelude.{◌≡◌, ◌≢◌, ℕ, ◌<◌, ℤ, pos, ◌�
 use Rattle.std.specs.Option.{ForSome}
 use Rattle.um_laws.specs.Rational.{Rational, add, mul, whole}
 use Rattle.um_lp.specs.Basis.{sum_below, Solves, TableauOf}
-use Rattle.um_lp.specs.States.{State, Frame, width, slack, system, cost_of, basic_of, at_of, ends_of, entry_of, reduced_of, value_of, end_at, number_of_end}
+use Rattle.um_lp.specs.States.{State, Frame, width, slack, system, cost_of, basic_of, at_of, state_ends_of, entry_of, reduced_of, value_of, end_at, number_of_end}
 use Rattle.um_lp.specs.declared.board.At.{At}
 use Rattle.um_lp.specs.declared.board.At.TheVariants.{Lower, Upper, Zero, Basic}
 use Rattle.um_lp.specs.declared.board.Costs.{Costs}
@@ -32,7 +32,7 @@ IsReducedCost s column = reduced_of s column ≡ add (cost_of s column) (sum_bel
 
 -- a nonbasic column has the value of its end, and 0 at Zero; the basic values follow, as the values solve the tableau's rows
 pub record AreValues (s : State) : Type 0 where
-  pub nonbasic : (column : ℕ) → column < width s.frame → at_of s column ≢ Basic → value_of s column ≡ number_of_end (end_at (at_of s column) (ends_of s column))
+  pub nonbasic : (column : ℕ) → column < width s.frame → at_of s column ≢ Basic → value_of s column ≡ number_of_end (end_at (at_of s column) (state_ends_of s column))
   pub basic : Solves s.frame.rows (width s.frame) (entry_of s) (value_of s)
 
 -- what holds of the state of every board
@@ -52,7 +52,7 @@ pub record IsStart (f : Frame) (s : State) : Type 0 where
   pub costs : s.costs ≡ Given
   pub basic : (row : ℕ) → row < f.rows → basic_of s row ≡ slack f row
   pub nonbasic : (column : ℕ) → column < width f → at_of s column ≢ Basic → at_of s column ≡ Lower
-  pub ends : (column : ℕ) → column < width f → ends_of s column ≡ (Some (pos 0), Some (pos 0))
+  pub ends : (column : ℕ) → column < width f → state_ends_of s column ≡ (Some (pos 0), Some (pos 0))
 
 -- ---- acts
 
@@ -123,6 +123,6 @@ pub record IsReset (taken : Costs) (s t : State) : Type 0 where
   pub costs : t.costs ≡ taken
   pub basic : (row : ℕ) → row < s.frame.rows → basic_of t row ≡ slack s.frame row
   pub nonbasic : (column : ℕ) → column < width s.frame → at_of t column ≢ Basic → at_of t column ≡ Lower
-  pub ends : (column : ℕ) → column < width s.frame → ends_of t column ≡ (Some (pos 0), Some (pos 0))
+  pub ends : (column : ℕ) → column < width s.frame → state_ends_of t column ≡ (Some (pos 0), Some (pos 0))
   pub values : (column : ℕ) → column < width s.frame → value_of t column ≡ whole (pos 0)
   pub board : IsBoard t

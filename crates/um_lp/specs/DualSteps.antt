@@ -3,7 +3,7 @@ use Rattle.std.specs.Prelude.{◌≡◌, ◌≢◌, ℕ, ◌≤◌, ◌<◌, ℤ
 use lib.IntN.{nat_abs}
 use Rattle.um_laws.specs.Rational.{Rational, reduce, whole, mul, inverse}
 use Rattle.um_num.specs.Fractions.{IsBelow}
-use Rattle.um_lp.specs.States.{State, width, basic_of, at_of, ends_of, entry_of, reduced_of, value_of}
+use Rattle.um_lp.specs.States.{State, width, basic_of, at_of, state_ends_of, entry_of, reduced_of, value_of}
 use Rattle.um_lp.specs.Boards.{IsPivot, AreOrdered}
 use Rattle.um_lp.specs.declared.board.At.{At}
 use Rattle.um_lp.specs.declared.board.At.TheVariants.{Lower, Upper, Zero, Basic}
@@ -20,8 +20,8 @@ IsAboveEnd high value = (end : ℤ) × (high ≡ Some end) × IsBelow (whole end
 
 -- the basic column of a row is outside its ends, on the side of this end
 abbrev pub IsOutsideAt : State → ℕ → At → Type 0
-IsOutsideAt s row Lower = IsBelowEnd (ends_of s (basic_of s row)).0 (value_of s (basic_of s row))
-IsOutsideAt s row Upper = IsAboveEnd (ends_of s (basic_of s row)).1 (value_of s (basic_of s row))
+IsOutsideAt s row Lower = IsBelowEnd (state_ends_of s (basic_of s row)).0 (value_of s (basic_of s row))
+IsOutsideAt s row Upper = IsAboveEnd (state_ends_of s (basic_of s row)).1 (value_of s (basic_of s row))
 IsOutsideAt s row Zero = ⊥
 IsOutsideAt s row Basic = ⊥
 
@@ -107,12 +107,12 @@ AreSteps (suc n) s t = (between : State) × AreSteps n s between × IsStep betwe
 
 -- a nonbasic column stands at the end that its reduced cost wants, that end is finite, and one at Zero has no finite end
 pub record IsDualFeasibleAt (s : State) (column : ℕ) : Type 0 where
-  pub ordered : AreOrdered (ends_of s column)
+  pub ordered : AreOrdered (state_ends_of s column)
   pub positive : at_of s column ≢ Basic → pos 0 <ℤ (reduced_of s column).num → at_of s column ≡ Lower
   pub negative : at_of s column ≢ Basic → (reduced_of s column).num <ℤ pos 0 → at_of s column ≡ Upper
-  pub lower : at_of s column ≡ Lower → IsSome (ends_of s column).0
-  pub upper : at_of s column ≡ Upper → IsSome (ends_of s column).1
-  pub free : at_of s column ≡ Zero → ends_of s column ≡ (None, None)
+  pub lower : at_of s column ≡ Lower → IsSome (state_ends_of s column).0
+  pub upper : at_of s column ≡ Upper → IsSome (state_ends_of s column).1
+  pub free : at_of s column ≡ Zero → state_ends_of s column ≡ (None, None)
 
 -- the state is dual feasible: each column is
 abbrev pub IsDualFeasible : State → Type 0

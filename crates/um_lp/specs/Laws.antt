@@ -4,7 +4,7 @@ use Rattle.um_laws.specs.Rational.{Rational, whole}
 use Rattle.um_lp.specs.Basis.{TableauOf, Solves, pivot_entry, pivot_basic}
 use Rattle.um_lp.specs.Boards.{IsBoard, IsPivot, IsReset, IsStart, AreOrdered}
 use Rattle.um_lp.specs.DualSteps.{Next, IsNext}
-use Rattle.um_lp.specs.States.{State, width, system, cost_of, ends_of, entry_of, reduced_of}
+use Rattle.um_lp.specs.States.{State, width, system, cost_of, state_ends_of, entry_of, reduced_of}
 use Rattle.um_lp.specs.declared.board.At.{At}
 use Rattle.um_lp.specs.declared.board.Costs.{Costs}
 use Rattle.um_lp.specs.declared.board.Costs.TheVariants.{Given, Nothing}
@@ -35,7 +35,7 @@ OnePivotLaw = (s t u : State) (row column : ℕ) (to : At) → IsPivot row colum
 
 -- What comes next in a state is one thing, where the low end of each column is at most its high end.
 abbrev pub OneNextLaw : Type 0
-OneNextLaw = (s : State) (a b : Next) → IsBoard s → ((column : ℕ) → column < width s.frame → AreOrdered (ends_of s column)) → IsNext s a → IsNext s b → a ≡ b
+OneNextLaw = (s : State) (a b : Next) → IsBoard s → ((column : ℕ) → column < width s.frame → AreOrdered (state_ends_of s column)) → IsNext s a → IsNext s b → a ≡ b
 
 -- A reset with the given costs leads to the start, which is a board.
 abbrev pub ResetStartLaw : Type 0

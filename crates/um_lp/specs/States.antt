@@ -82,8 +82,8 @@ abbrev pub at_of : State → ℕ → At
 at_of s column = slice_index_or s.at column Zero
 
 -- the low and the high end of a column
-abbrev pub ends_of : State → ℕ → Option ℤ × Option ℤ
-ends_of s column = slice_index_or s.ends column (None, None)
+abbrev pub state_ends_of : State → ℕ → Option ℤ × Option ℤ
+state_ends_of s column = slice_index_or s.ends column (None, None)
 
 -- the entry of a row and a column in the tableau
 abbrev pub entry_of : State → ℕ → ℕ → Rational

@@ -8,7 +8,7 @@ ghost use Rattle.std.specs.Option.{ForSome};
 ghost use Rattle.std.specs.Ordering.{int_cmp};
 ghost use Rattle.um_lp.specs.Boards.{IsBoard, IsPivot, IsRebox, IsReset, IsFinite, AreOrdered, IsWantedEndFinite};
 ghost use Rattle.um_lp.specs.Refusals.{IsRefusedAt, IsRefusedAct};
-ghost use Rattle.um_lp.specs.States.{State, width, at_of, basic_of, ends_of, entry_of, reduced_of, value_of};
+ghost use Rattle.um_lp.specs.States.{State, width, at_of, basic_of, state_ends_of, entry_of, reduced_of, value_of};
 
 use std::cmp::Ordering;
 use um_num::{Frac, Wide};
@@ -72,7 +72,7 @@ pub trait Board {
     /// The low and the high end of a column; `None` is infinite.
     fn ends(&self, column: u32) -> (Option<i128>, Option<i128>)
         requires { column < width (state self.now).frame }
-        ensures ends { result ≡ ends_of (state self.now) column }
+        ensures ends { result ≡ state_ends_of (state self.now) column }
         ensures low_in { ForSome result.0 IsInRange }
         ensures high_in { ForSome result.1 IsInRange };
 
@@ -111,7 +111,7 @@ pub trait Board {
         requires column_in { column < width (state self.old).frame }
         requires nonbasic { at_of (state self.old) column ≢ At.Basic }
         requires not_zero { entry_of (state self.old) row column ≢ whole (pos 0) }
-        requires finite { IsFinite to (ends_of (state self.old) (basic_of (state self.old) row)) }
+        requires finite { IsFinite to (state_ends_of (state self.old) (basic_of (state self.old) row)) }
         ensures ok { OnOk result (IsPivot row column to (state self.old) (state self.new)) }
         ensures err { OnErr result (state self.new ≡ state self.old) }
         ensures wide { IfErr result (IsRefusedAct (state self.old) (IsPivot row column to (state self.old))) }

@@ -9,7 +9,7 @@ use Rattle.um_model.specs.Values.{DeckValue}
 use Rattle.um_model.specs.Boxes.{root}
 use Rattle.um_lp.specs.Basis.{sum_below}
 use Rattle.um_lp.specs.DualSteps.{Leaves, IsOutsideAt, CanMove, MayEnter}
-use Rattle.um_lp.specs.States.{State, width, at_of, ends_of, basic_of, entry_of, value_of}
+use Rattle.um_lp.specs.States.{State, width, at_of, state_ends_of, basic_of, entry_of, value_of}
 use Rattle.um_lp.specs.declared.board.At.{At}
 use Rattle.um_lp.specs.declared.board.At.TheVariants.{Lower, Upper, Zero, Basic}
 use Rattle.um_lp.proofs.Rows.{same_or_not}
@@ -49,7 +49,7 @@ helps_not Zero to e v side none leans = nonneg_zero (turn to (mul e v)) (turn_ze
 helps_not Basic to e v side none leans = nonneg_zero (turn to (mul e v)) (turn_zero to (mul e v) (ap (mul e) leans ∙ by_ring (e ∷ []) (var 0 ⊗ nought) nought refl))
 
 -- a value outside the ends is on that side of 0
-beyond : (s : State) (row : ℕ) (to : At) (own : Option ℤ × Option ℤ) → AreMoving own (ends_of s (basic_of s row)) → IsOutsideAt s row to → IsPositive (turn to (neg (value_of s (basic_of s row))))
+beyond : (s : State) (row : ℕ) (to : At) (own : Option ℤ × Option ℤ) → AreMoving own (state_ends_of s (basic_of s row)) → IsOutsideAt s row to → IsPositive (turn to (neg (value_of s (basic_of s row))))
 beyond s row Lower own m h =
     let v : Rational = value_of s (basic_of s row) in
     let l : Rational = whole h.0 in

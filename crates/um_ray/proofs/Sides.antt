@@ -8,7 +8,7 @@ use Rattle.um_laws.proofs.RationalEquations.{by_ring}
 use Rattle.um_laws.proofs.Ring.{var, nought, ◌⊕◌, opp}
 use Rattle.um_model.specs.Values.{DeckValue}
 use Rattle.um_model.specs.Boxes.{root}
-use Rattle.um_lp.specs.States.{State, width, at_of, ends_of, value_of, basic_of, end_at, number_of_end}
+use Rattle.um_lp.specs.States.{State, width, at_of, state_ends_of, value_of, basic_of, end_at, number_of_end}
 use Rattle.um_lp.specs.DualSteps.{IsNext, Ended, IsOutsideAt}
 use Rattle.um_lp.specs.declared.board.At.{At}
 use Rattle.um_lp.specs.declared.board.At.TheVariants.{Lower, Upper, Zero, Basic}
@@ -70,7 +70,7 @@ open_at Zero own start v m leans ne e free = record {
 open_at Basic own start v m leans ne e free = absurd (ne refl)
 
 -- a basic column within its ends
-open_basic : (s : State) (row : ℕ) (own : Option ℤ × Option ℤ) → AreMoving own (ends_of s (basic_of s row)) → ((side : At) → ¬ IsOutsideAt s row side) → IsOpen own (value_of s (basic_of s row))
+open_basic : (s : State) (row : ℕ) (own : Option ℤ × Option ℤ) → AreMoving own (state_ends_of s (basic_of s row)) → ((side : At) → ¬ IsOutsideAt s row side) → IsOpen own (value_of s (basic_of s row))
 open_basic s row own m none =
     let v : Rational = value_of s (basic_of s row) in
     record {
@@ -82,13 +82,13 @@ module _ (d : DeckValue) (t : State) (on : IsOnBox (directions d) (root (directi
   abbrev pub own : ℕ → Option ℤ × Option ℤ
   own j = ends_on d (root d) j
 
-  pub moves : (j : ℕ) → j < width t.frame → AreMoving (own j) (ends_of t j)
+  pub moves : (j : ℕ) → j < width t.frame → AreMoving (own j) (state_ends_of t j)
   moves j l =
       subst (λ (e : Option ℤ × Option ℤ). AreMoving (own j) e) (sym (on.boxed j l))
       (moving d j (omega (arith, width-is d t (stands_on_deck d t on.stands))))
 
   pub nonbasic_leans : (j : ℕ) → j < width t.frame → at_of t j ≢ Basic → Leans (at_of t j) (value_of t j)
-  nonbasic_leans j l ne = let f = on.feasible j l in leans (at_of t j) (own j) (ends_of t j) (value_of t j) (moves j l) f.lower f.upper (on.board.values.nonbasic j l ne)
+  nonbasic_leans j l ne = let f = on.feasible j l in leans (at_of t j) (own j) (state_ends_of t j) (value_of t j) (moves j l) f.lower f.upper (on.board.values.nonbasic j l ne)
 
   -- where no step is due
   pub open-value : IsNext t Ended → (j : ℕ) → j < width t.frame → IsOpen (own j) (value_of t j)
@@ -98,13 +98,13 @@ module _ (d : DeckValue) (t : State) (on : IsOnBox (directions d) (root (directi
       other a is nonbasic =
           let f = on.feasible j l in
           let ne : at_of t j ≢ Basic = λ e. nonbasic (sym is ∙ e) in
-          open_at (at_of t j) (own j) (ends_of t j) (value_of t j) (moves j l) (nonbasic_leans j l ne) ne (on.board.values.nonbasic j l ne) f.free
+          open_at (at_of t j) (own j) (state_ends_of t j) (value_of t j) (moves j l) (nonbasic_leans j l ne) ne (on.board.values.nonbasic j l ne) f.free
 
       go : (a : At) → at_of t j ≡ a → IsOpen (own j) (value_of t j)
       go Basic is =
           let f = on.board.basis.found j l is in
           subst (λ (x : ℕ). IsOpen (own x) (value_of t x)) f.2
-          (open_basic t f.0 (own (basic_of t f.0)) (subst (λ (x : ℕ). AreMoving (own x) (ends_of t x)) (sym f.2) (moves j l)) (λ side. ended f.0 side f.1))
+          (open_basic t f.0 (own (basic_of t f.0)) (subst (λ (x : ℕ). AreMoving (own x) (state_ends_of t x)) (sym f.2) (moves j l)) (λ side. ended f.0 side f.1))
       go Lower is = other Lower is (λ e. cc)
       go Upper is = other Upper is (λ e. cc)
       go Zero is = other Zero is (λ e. cc)

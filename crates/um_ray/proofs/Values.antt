@@ -9,7 +9,7 @@ use Rattle.um_laws.proofs.Ring.{var, nought, ◌⊕◌, ◌⊗◌, opp}
 use Rattle.um_model.specs.Values.{DeckValue}
 use Rattle.um_model.specs.Boxes.{root}
 use Rattle.um_lp.specs.Basis.{sum_below}
-use Rattle.um_lp.specs.States.{State, width, at_of, ends_of, reduced_of, value_of}
+use Rattle.um_lp.specs.States.{State, width, at_of, state_ends_of, reduced_of, value_of}
 use Rattle.um_lp.specs.declared.board.Costs.TheVariants.{Given}
 use Rattle.um_lp.proofs.Orders.{whole_num}
 use Rattle.um_lp.proofs.Sums.{sum-none, sum-neg}
@@ -169,14 +169,14 @@ module _ (d : DeckValue) (t : State) (on : IsOnBox (directions d) (root (directi
   abbrev lost : ℕ → Rational
   lost j = mul (reduced_of t j) (value_of t j)
 
-  moves : (j : ℕ) → j < w → AreMoving (ends_on d (root d) j) (ends_of t j)
+  moves : (j : ℕ) → j < w → AreMoving (ends_on d (root d) j) (state_ends_of t j)
   moves j l =
       subst (λ (e : Option ℤ × Option ℤ). AreMoving (ends_on d (root d) j) e) (sym (on.boxed j l))
       (moving d j (omega (arith, width-is d t (stands_on_deck d t on.stands))))
 
-  takes : (j : ℕ) → j < w → Takes (reduced_of t j) (ends_of t j) (value_of t j)
+  takes : (j : ℕ) → j < w → Takes (reduced_of t j) (state_ends_of t j) (value_of t j)
   takes j l = elim (basic-or-not (at_of t j)) [
-    | inl e ↦ takes-none (reduced_of t j) (value_of t j) (ends_of t j) (at_basic_reduced t on.board j l e)
+    | inl e ↦ takes-none (reduced_of t j) (value_of t j) (state_ends_of t j) (at_basic_reduced t on.board j l e)
     | inr ne ↦ takes-end t j (reduced_of t j) l on.board.values (on.feasible j l) ne ((on.feasible j l).positive ne) (λ p. (on.feasible j l).negative ne (num-under (reduced_of t j) p))
   ]
 
@@ -185,7 +185,7 @@ module _ (d : DeckValue) (t : State) (on : IsOnBox (directions d) (root (directi
   value-is = slope-is d t on given ∙ ap (mul (scale t)) (sym (reduced_times t on.board (value_of t) on.board.values.basic))
 
   all_lose : (j : ℕ) → j < w → IsNonNegative (neg (lost j))
-  all_lose j l = loses (reduced_of t j) (value_of t j) (ends_on d (root d) j) (ends_of t j) (moves j l) (takes j l)
+  all_lose j l = loses (reduced_of t j) (value_of t j) (ends_on d (root d) j) (state_ends_of t j) (moves j l) (takes j l)
 
   sum_loses : IsNonNegative (neg (sum_below w lost))
   sum_loses = subst IsNonNegative (sum-neg w lost) (sum_nonneg w (λ j. neg (lost j)) all_lose)
@@ -206,14 +206,14 @@ module _ (d : DeckValue) (t : State) (on : IsOnBox (directions d) (root (directi
 
   wants : slope d t ≡ pos 0 → WantsOwnEnds d t
   wants e j l = record {
-    low = λ ne p. holds_low (reduced_of t j) (value_of t j) (ends_on d (root d) j) (ends_of t j) (moves j l) (takes j l) (none_lost e j l) p;
-    high = λ ne p. holds_high (reduced_of t j) (value_of t j) (ends_on d (root d) j) (ends_of t j) (moves j l) (takes j l) (none_lost e j l) (under (reduced_of t j) p);
+    low = λ ne p. holds_low (reduced_of t j) (value_of t j) (ends_on d (root d) j) (state_ends_of t j) (moves j l) (takes j l) (none_lost e j l) p;
+    high = λ ne p. holds_high (reduced_of t j) (value_of t j) (ends_on d (root d) j) (state_ends_of t j) (moves j l) (takes j l) (none_lost e j l) (under (reduced_of t j) p);
   }
 
   wanted : WantsOwnEnds d t → (j : ℕ) → j < w → lost j ≡ whole (pos 0)
   wanted h j l = elim (basic-or-not (at_of t j)) [
     | inl e ↦ no_part (reduced_of t j) (value_of t j) (at_basic_reduced t on.board j l e)
-    | inr ne ↦ nothing_lost (reduced_of t j) (value_of t j) (ends_on d (root d) j) (ends_of t j) (moves j l) (takes j l) ((h j l).low ne) (λ p. (h j l).high ne (num-under (reduced_of t j) p))
+    | inr ne ↦ nothing_lost (reduced_of t j) (value_of t j) (ends_on d (root d) j) (state_ends_of t j) (moves j l) (takes j l) ((h j l).low ne) (λ p. (h j l).high ne (num-under (reduced_of t j) p))
   ]
 
   level-at : WantsOwnEnds d t → slope d t ≡ pos 0
@@ -225,7 +225,7 @@ module _ (d : DeckValue) (t : State) (on : IsOnBox (directions d) (root (directi
       let j : ℕ = length d.columns + i in
       let r = item_at d.rows i l in
       let inside : j < w = omega (arith, l, width-is d t (stands_on_deck d t on.stands)) in
-      let ends : ends_of t j ≡ (side_end (still (slice_index_or d.rows i r.0).low), side_end (still (slice_index_or d.rows i r.0).high)) = on.boxed j inside ∙ start_slack d i r.0 l in
+      let ends : state_ends_of t j ≡ (side_end (still (slice_index_or d.rows i r.0).low), side_end (still (slice_index_or d.rows i r.0).high)) = on.boxed j inside ∙ start_slack d i r.0 l in
       taken_nothing (reduced_of t j) (value_of t j) (side_end (still (slice_index_or d.rows i r.0).low)) (side_end (still (slice_index_or d.rows i r.0).high)) (still_is (slice_index_or d.rows i r.0).low) (still_is (slice_index_or d.rows i r.0).high)
       (subst (λ (e : Option ℤ × Option ℤ). Takes (reduced_of t j) e (value_of t j)) ends (takes j inside))
 
@@ -235,7 +235,7 @@ module _ (d : DeckValue) (t : State) (on : IsOnBox (directions d) (root (directi
   -- what a column of the deck or a slack takes: nothing, or its value is 1 in size
   unit_or_not : (j : ℕ) → j < w → (lost j ≡ whole (pos 0)) ⊎ ((j < length d.columns) × IsUnit j)
   unit_or_not j l = elim (below_or j (length d.columns)) [
-    | inl c ↦ elim (unit_value (reduced_of t j) (value_of t j) (ends_on d (root d) j) (ends_of t j) (moves j l) (takes j l)) [ inl e ↦ inl e | inr u ↦ inr (c, u) ]
+    | inl c ↦ elim (unit_value (reduced_of t j) (value_of t j) (ends_on d (root d) j) (state_ends_of t j) (moves j l) (takes j l)) [ inl e ↦ inl e | inr u ↦ inr (c, u) ]
     | inr r ↦
         let i : ℕ = j - length d.columns in
         let e : length d.columns + i ≡ j = omega arith in

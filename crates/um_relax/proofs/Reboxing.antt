@@ -7,7 +7,7 @@ use Rattle.um_laws.specs.Rational.{Rational}
 use Rattle.um_model.specs.Values.{DeckValue}
 use Rattle.um_model.specs.Boxes.{BoxValue}
 use Rattle.um_num.specs.NumberLists.{number_at}
-use Rattle.um_lp.specs.States.{State, width, at_of, ends_of, reduced_of}
+use Rattle.um_lp.specs.States.{State, width, at_of, state_ends_of, reduced_of}
 use Rattle.um_lp.specs.Boards.{IsShaped, IsRebox, StandsAt, AreOrdered, IsWantedEndFinite, resting}
 use Rattle.um_lp.specs.DualSteps.{IsDualFeasibleAt}
 use Rattle.um_lp.specs.declared.board.At.{At}
@@ -17,7 +17,7 @@ use Rattle.um_duality.specs.Boxed.{ends_on}
 
 -- ---- what the columns below n have got, and what has stayed
 pub record HasGot (d : DeckValue) (b : BoxValue) (s t : State) (j : ℕ) : Type 0 where
-  pub ends : ends_of t j ≡ ends_on d b j
+  pub ends : state_ends_of t j ≡ ends_on d b j
   pub stands : StandsAt (at_of s j) (at_of t j) (reduced_of s j) (ends_on d b j)
 
 pub record IsPartly (d : DeckValue) (b : BoxValue) (n : ℕ) (s t : State) : Type 0 where
@@ -41,11 +41,11 @@ other_at : (n : ℕ) (given : Option ℤ × Option ℤ) (u t : State) (j : ℕ) 
 other_at n given u t j h ne = ap (λ (l : List At). get_or l j Zero) h.at ∙ get_or-set_other u.at n j (at_of t n) Zero ne
 
 -- nor do its ends change
-other_ends : (n : ℕ) (given : Option ℤ × Option ℤ) (u t : State) (j : ℕ) → IsRebox n given u t → j ≢ n → ends_of t j ≡ ends_of u j
+other_ends : (n : ℕ) (given : Option ℤ × Option ℤ) (u t : State) (j : ℕ) → IsRebox n given u t → j ≢ n → state_ends_of t j ≡ state_ends_of u j
 other_ends n given u t j h ne = ap (λ (l : List (Option ℤ × Option ℤ)). get_or l j (None, None)) h.ends ∙ get_or-set_other u.ends n j given (None, None) ne
 
 -- the column has its new ends
-own_ends : (n : ℕ) (given : Option ℤ × Option ℤ) (u t : State) → IsRebox n given u t → n < length u.ends → ends_of t n ≡ given
+own_ends : (n : ℕ) (given : Option ℤ × Option ℤ) (u t : State) → IsRebox n given u t → n < length u.ends → state_ends_of t n ≡ given
 own_ends n given u t h l = ap (λ (l : List (Option ℤ × Option ℤ)). get_or l n (None, None)) h.ends ∙ get_or-set_same u.ends n given (None, None) l
 
 -- one column more
@@ -186,7 +186,7 @@ is_right before after reduced ends stands wanted ordered = by before refl
         record { ordered = ordered; positive = λ ne p. absurd (ne f); negative = λ ne p. absurd (ne f); lower = λ h. cc; upper = λ h. cc; free = λ h. cc }
 
 -- what stands right is dual feasible
-right_feasible : (t : State) (j : ℕ) → IsRight (at_of t j) (reduced_of t j) (ends_of t j) → IsDualFeasibleAt t j
+right_feasible : (t : State) (j : ℕ) → IsRight (at_of t j) (reduced_of t j) (state_ends_of t j) → IsDualFeasibleAt t j
 right_feasible t j h = record { ordered = h.ordered; positive = h.positive; negative = h.negative; lower = h.lower; upper = h.upper; free = h.free }
 
 -- each column that has got its ends is dual feasible

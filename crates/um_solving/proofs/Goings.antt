@@ -10,7 +10,7 @@ use Rattle.um_model.specs.Boxes.{BoxValue, Ends, root, ends_at, ends_of}
 use Rattle.um_model.specs.declared.deck.Kind.{Kind}
 use Rattle.um_model.specs.declared.deck.Kind.TheVariants.{Continuous, Integer, Semi}
 use Rattle.um_deck.proofs.ListParts.{all_at}
-use Rattle.um_lp.specs.States.{at_of, reduced_of, ends_of as state_ends_of}
+use Rattle.um_lp.specs.States.{at_of, reduced_of, state_ends_of}
 use Rattle.um_lp.specs.Boards.{IsWantedEndFinite}
 use Rattle.um_lp.specs.declared.board.At.{At}
 use Rattle.um_lp.proofs.Orders.{whole_num}

@@ -11,7 +11,7 @@ use Rattle.um_num.specs.Numbers.{IsInRange}
 use Rattle.um_num.proofs.Parts.{zero_parts}
 use Rattle.std.proofs.lemmas.Int.{ints}
 use Rattle.um_lp.specs.Boards.{IsPivot, IsRebox, IsFinite}
-use Rattle.um_lp.specs.States.{Frame, width, at_of, ends_of, entry_of, basic_of, end_at, number_of_end}
+use Rattle.um_lp.specs.States.{Frame, width, at_of, state_ends_of, entry_of, basic_of, end_at, number_of_end}
 use Rattle.um_lp.specs.declared.board.At.{At}
 use Rattle.um_lp.specs.declared.board.At.TheVariants.{Basic}
 use Rattle.um_laws.proofs.RationalEquations.{by_ring}
@@ -62,7 +62,7 @@ sheet_of f s size h ends_in =
 
 -- ---- pivots
 pub pivot_is : (f : Frame) (s t : Sheet) (row column : ℕ) (to : At) → Stands (state_of f s) → row < f.rows → column < width f → at_of (state_of f s) column ≢ Basic → entry_of (state_of f s) row column ≢ whole (pos 0)
-    → IsFinite to (ends_of (state_of f s) (basic_of (state_of f s) row))
+    → IsFinite to (state_ends_of (state_of f s) (basic_of (state_of f s) row))
     → IsPivoted s t row column to (number_of_end (end_at to (ends_at s (basic_at s row)))) → IsPivot row column to (state_of f s) (state_of f t)
 pivot_is f s t row column to h lr lk free ne finite p =
     IsBoard-pivot row column to (state_of f s) (state_of f t) (board_of (state_of f s) h) lr lk free ne finite

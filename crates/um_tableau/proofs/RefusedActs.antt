@@ -12,7 +12,7 @@ use Rattle.um_lp.specs.Boards.{IsFinite, IsPivot, IsRebox, StandsAt}
 use Rattle.um_num.specs.Numbers.{IsOutOfRange}
 use Rattle.um_lp.specs.Refusals.{IsRefusedAct}
 use Rattle.um_num.specs.NumberLists.{number_at}
-use Rattle.um_lp.specs.States.{State, Frame, width, at_of, ends_of, basic_of, entry_of, value_of, end_at, number_of_end}
+use Rattle.um_lp.specs.States.{State, Frame, width, at_of, state_ends_of, basic_of, entry_of, value_of, end_at, number_of_end}
 use Rattle.um_lp.specs.WideStates.{is_wide, numbers_of, AreNarrow}
 use Rattle.um_lp.specs.declared.board.At.{At}
 use Rattle.um_lp.specs.declared.board.At.TheVariants.{Basic}
@@ -79,7 +79,7 @@ narrow_pivot f s row column to h lr lk free ne hs ht =
     }
 
 pub pivot_refused : (f : Frame) (s : Sheet) (row column : ℕ) (to : At) (r : Result (Unit {0}) Wide) → Stands (state_of f s) → row < f.rows → column < width f → at_of (state_of f s) column ≢ Basic → entry_of (state_of f s) row column ≢ whole (pos 0)
-    → IsFinite to (ends_of (state_of f s) (basic_of (state_of f s) row))
+    → IsFinite to (state_ends_of (state_of f s) (basic_of (state_of f s) row))
     → IfErr r IsOutOfRange → (IsNarrowPivot s row column (number_of_end (end_at to (ends_at s (basic_at s row)))) → IsOk r) → IfErr r (IsRefusedAct (state_of f s) (IsPivot row column to (state_of f s)))
 pivot_refused f s row column to (Ok x) h lr lk free ne finite out narrow = tt
 pivot_refused f s row column to (Err w) h lr lk free ne finite out narrow =

@@ -5,7 +5,7 @@ ghost use Rattle.std.specs.Option.{ForSome};
 ghost use Rattle.um_laws.specs.Rational.{whole};
 ghost use Rattle.um_num.specs.Numbers.{IsInRange, IsOutOfRange};
 ghost use Rattle.um_num.specs.NumberLists.{number_at};
-ghost use Rattle.um_lp.specs.States.{end_at, number_of_end, ends_of};
+ghost use Rattle.um_lp.specs.States.{end_at, number_of_end, state_ends_of};
 ghost use Rattle.um_tableau.specs.Rows.{row_at, entry_at, AreBelow, AreDistinct};
 ghost use Rattle.um_lines.specs.Lines.{HasMinusOne};
 ghost use Rattle.um_tableau.specs.NarrowActs.{IsNarrowPivot};
