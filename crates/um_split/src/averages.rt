@@ -1,10 +1,11 @@
 //! The average weight of a set's members, and where it lies.
 
-ghost use Rattle.std.specs.Prelude.{◌≡◌, ◌<◌, ◌≤◌, ◌*◌, ◌^◌, pos, ◌*ℤ◌, ◌≤ℤ◌, ◌<ℤ◌, length, All, AllPairs, IsTrue, ◌↔◌};
+ghost use Rattle.std.specs.Prelude.{◌≡◌, ◌<◌, ◌≤◌, ◌^◌, pos, ◌*ℤ◌, ◌≤ℤ◌, ◌<ℤ◌, length, All, AllPairs, IsTrue, ◌↔◌};
 ghost use Rattle.um_laws.specs.Sums.{sum_of, dot};
 ghost use Rattle.um_model.specs.WellFormed.{IsWithin};
 ghost use Rattle.um_model.specs.Feasible.{part};
 ghost use Rattle.um_model.specs.declared.deck.Member.{Member};
+ghost use Rattle.um_model.specs.declared.limits.TheConstants.{MOST_WEIGHT};
 ghost use Rattle.um_point.specs.MemberParts.{parts_of};
 ghost use Rattle.um_point.specs.SmallPoints.{FitsIn36Bits};
 ghost use Rattle.um_split.specs.Stretches.{IsStretch};
@@ -35,7 +36,7 @@ fn part_of(member: &Member, parts: &[i128]) -> i128
 fn weighted_part(member: &Member, parts: &[i128]) -> i128
     requires inside { member.now.column < length parts.now }
     requires small { All FitsIn36Bits parts.now }
-    requires weight { IsWithin (2 ^ 31 * 10 ^ 6) member.now.weight }
+    requires weight { IsWithin MOST_WEIGHT member.now.weight }
     ensures value { result ≡ member.now.weight *ℤ part parts.now member.now.column }
     ensures size { IsWithin (2 ^ 87) result }
 {
@@ -62,7 +63,7 @@ pub(crate) fn average_of(members: &[Member], parts: &[i128], start: usize, end: 
 impl Average {
     /// A weight times the total.
     fn times_total(&self, weight: i64) -> i128
-        requires weight { IsWithin (2 ^ 31 * 10 ^ 6) weight }
+        requires weight { IsWithin MOST_WEIGHT weight }
         requires total { IsWithin (2 ^ 48) self.now.total }
         ensures { result ≡ weight *ℤ self.now.total }
     {
@@ -71,7 +72,7 @@ impl Average {
 
     /// Whether a weight is at most the average.
     fn reaches(&self, weight: i64) -> bool
-        requires weight { IsWithin (2 ^ 31 * 10 ^ 6) weight }
+        requires weight { IsWithin MOST_WEIGHT weight }
         requires total { IsWithin (2 ^ 48) self.now.total }
         ensures { IsTrue result ↔ ((weight *ℤ self.now.total) ≤ℤ self.now.weighted) }
     {
@@ -81,7 +82,7 @@ impl Average {
     /// The last position whose weight is at most the average: that of `first` is, and that of `last` is not.
     pub(crate) fn last_reached(&self, members: &[Member], first: usize, last: usize) -> usize
         requires rise { AllPairs (λ (a : Member) (b : Member). a.weight <ℤ b.weight) members.now }
-        requires weights { All (λ (m : Member). IsWithin (2 ^ 31 * 10 ^ 6) m.weight) members.now }
+        requires weights { All (λ (m : Member). IsWithin MOST_WEIGHT m.weight) members.now }
         requires order { first < last }
         requires inside { last < length members.now }
         requires total { pos 0 ≤ℤ self.now.total }

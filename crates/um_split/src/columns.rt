@@ -1,9 +1,10 @@
 //! Columns of a deck at a point: where a value that is to be whole is not, and where a threshold is kept.
 
-ghost use Rattle.std.specs.Prelude.{◌≡◌, ◌^◌, ◌<◌, ◌*ℤ◌, ◌≤ℤ◌, ◌⊎◌, pos, length, IsNone, IfSome, IsTrue, ◌↔◌};
+ghost use Rattle.std.specs.Prelude.{◌≡◌, ◌<◌, ◌*ℤ◌, ◌≤ℤ◌, ◌⊎◌, pos, length, IsNone, IfSome, IsTrue, ◌↔◌};
 ghost use Rattle.um_model.specs.Values.{plain_point};
 ghost use Rattle.um_model.specs.WellFormed.{IsWithin};
 ghost use Rattle.um_model.specs.Feasible.{part, IntegerHolds, SemiHolds, IsMultipleOf};
+ghost use Rattle.um_model.specs.declared.limits.TheConstants.{MOST_END};
 ghost use Rattle.um_point.specs.Places.{HoldsAt};
 ghost use Rattle.um_point.specs.SmallPoints.{FitsIn36Bits, FitsMachine};
 ghost use Rattle.um_split.specs.Branchings.{IsFloor};
@@ -68,14 +69,14 @@ pub(crate) fn semi_holds(deck: &Deck, point: &Point, column: u32) -> bool
 fn is_zero_or_from(part: i128, den: i128, threshold: i64) -> bool
     requires den_size { FitsIn36Bits den }
     requires part_size { FitsIn36Bits part }
-    requires threshold { IsWithin (10 ^ 10) threshold }
+    requires threshold { IsWithin MOST_END threshold }
     ensures { IsTrue result ↔ ((part ≡ pos 0) ⊎ ((threshold *ℤ den) ≤ℤ (pos 1000 *ℤ part))) }
 {
     part == 0 || times(threshold, den) <= thousandths(part)
 }
 
 fn times(threshold: i64, den: i128) -> i128
-    requires threshold { IsWithin (10 ^ 10) threshold }
+    requires threshold { IsWithin MOST_END threshold }
     requires den { FitsIn36Bits den }
     ensures { result ≡ threshold *ℤ den }
 {

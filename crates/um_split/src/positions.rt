@@ -4,6 +4,7 @@ ghost use Rattle.std.specs.Prelude.{◌≡◌, ◌≢◌, ◌<◌, ◌≤◌, �
 ghost use Rattle.std.specs.Option.{MatchOption};
 ghost use Rattle.um_model.specs.Feasible.{part, IsNonzeroAt, SetRule};
 ghost use Rattle.um_model.specs.AverageSplit.{IsFirstNonzero, IsLastNonzero};
+ghost use Rattle.um_model.specs.declared.limits.TheConstants.{MOST_COLUMNS};
 ghost use Rattle.um_point.specs.MemberParts.{parts_of};
 ghost use Rattle.um_split.specs.Stretches.{IsStretch};
 
@@ -53,7 +54,7 @@ pub(crate) fn last_nonzero(members: &[Member], parts: &[i128], first: usize, end
 
 /// Whether the rule of this kind holds, where the nonzero parts go from the first position to the last.
 pub(crate) fn rule_holds(kind: SetKind, first: usize, last: usize) -> bool
-    requires { first < 4096 }
+    requires { first < MOST_COLUMNS }
     ensures { (parts : List ℤ) → IsFirstNonzero parts first → IsLastNonzero parts last → (IsTrue result ↔ SetRule kind parts) }
 {
     match kind {

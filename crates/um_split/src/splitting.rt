@@ -5,6 +5,7 @@ ghost use Rattle.std.specs.Option.{MatchOption};
 ghost use Rattle.um_model.specs.Values.{plain_point};
 ghost use Rattle.um_model.specs.Feasible.{SetRule, SetHolds};
 ghost use Rattle.um_model.specs.AverageSplit.{split_at, IsAverageSplit};
+ghost use Rattle.um_model.specs.declared.limits.TheConstants.{MOST_COLUMNS};
 ghost use Rattle.um_point.specs.MemberParts.{parts_of};
 ghost use Rattle.um_point.specs.Places.{HoldsAt};
 ghost use Rattle.um_point.specs.SmallPoints.{FitsMachine};
@@ -20,8 +21,8 @@ use um_model::{Branch, Member, Point, SetKind};
 
 /// The branch of a set of this kind, by its first nonzero position and the position of the average.
 fn branch_at(kind: SetKind, set: u32, first: usize, average: usize) -> Branch
-    requires first { first < 4096 }
-    requires average { average < 4096 }
+    requires first { first < MOST_COLUMNS }
+    requires average { average < MOST_COLUMNS }
     ensures { result ≡ split_at kind set first average }
 {
     match kind {
