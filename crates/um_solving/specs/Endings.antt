@@ -1,11 +1,12 @@
 -- How a node ended.
-use Rattle.std.specs.Prelude.{◌≡◌, ℕ, ◌+◌, ◌^◌, Option, option_map, Result, Ok, IsErr}
+use Rattle.std.specs.Prelude.{◌≡◌, ℕ, ◌+◌, Option, option_map, Result, Ok, IsErr}
 use Rattle.um_num.specs.declared.Memory.{Memory}
 use Rattle.um_model.specs.Values.{DeckValue, plain_point}
 use Rattle.um_model.specs.Boxes.{BoxValue}
 use Rattle.um_model.specs.Accepted.{IsSmallPoint}
 use Rattle.um_model.specs.declared.answer.Why.{Why}
 use Rattle.um_model.specs.declared.answer.Why.TheVariants as why
+use Rattle.um_model.specs.declared.limits.TheConstants.{MULTIPLIER_SIZE}
 use Rattle.um_multipliers.specs.declared.multipliers.Multipliers.{Multipliers}
 use Rattle.um_multipliers.specs.PlainMultipliers.{plain_multipliers}
 use Rattle.um_multipliers.specs.Sizes.{AreBelow}
@@ -19,8 +20,8 @@ use Rattle.um_solving.specs.declared.node.NodeEnd.TheVariants as end
 
 -- the node of this number, begun with the board in the one state after so many early pivots, ended with it in the other, after so many pivots more of those that were left; the numbers that a tree takes are small
 abbrev pub EndedAs : DeckValue → BoxValue → State → ℕ → ℕ → ℕ → ℕ → NodeEnd → State → Type 0
-EndedAs d b before early pivots left number (end.Vertex point y) after = AtVertex d b before pivots after (plain_point point) (plain_multipliers y) × IsSmallPoint (plain_point point) × AreBelow (2 ^ 40) (plain_multipliers y)
-EndedAs d b before early pivots left number (end.Empty y) after = WithoutPoint d b before pivots after (plain_multipliers y) × AreBelow (2 ^ 40) (plain_multipliers y)
+EndedAs d b before early pivots left number (end.Vertex point y) after = AtVertex d b before pivots after (plain_point point) (plain_multipliers y) × IsSmallPoint (plain_point point) × AreBelow MULTIPLIER_SIZE (plain_multipliers y)
+EndedAs d b before early pivots left number (end.Empty y) after = WithoutPoint d b before pivots after (plain_multipliers y) × AreBelow MULTIPLIER_SIZE (plain_multipliers y)
 EndedAs d b before early pivots left number (end.Stopped cause own) after = StoppedBy d b before early pivots left number cause (option_map plain_multipliers own)
 
 -- the node ended with the board in this state, after so many steps under its number, by any run that leads there, from whatever state and however many pivots were left; so many of the steps were made early

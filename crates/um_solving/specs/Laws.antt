@@ -1,5 +1,5 @@
 -- What the next node may rest on, and what a vertex and its multipliers mean for the deck.
-use Rattle.std.specs.Prelude.{◌≡◌, ◌≢◌, ℕ, ◌^◌, ℤ, pos, ◌≤ℤ◌, ◌<ℤ◌, [], length, Some}
+use Rattle.std.specs.Prelude.{◌≡◌, ◌≢◌, ℕ, ℤ, pos, ◌≤ℤ◌, ◌<ℤ◌, [], length, Some}
 use Rattle.um_model.specs.Values.{DeckValue, ColumnValue, SetValue, PointValue}
 use Rattle.um_model.specs.WellFormed.{AtPlace, HasTwoEnds, IsDeck}
 use Rattle.um_model.specs.declared.deck.Kind.TheVariants.{Continuous}
@@ -13,6 +13,7 @@ use Rattle.um_model.specs.declared.answer.Why.{Why}
 use Rattle.um_model.specs.declared.branch.Branch.{Branch}
 use Rattle.um_model.specs.declared.branch.Side.{Side}
 use Rattle.um_model.specs.declared.leaf.Leaf.TheVariants.{Value}
+use Rattle.um_model.specs.declared.limits.TheConstants.{MULTIPLIER_SIZE}
 use Rattle.um_multipliers.specs.NormalForm.{HasRisingRows}
 use Rattle.um_multipliers.specs.PlainMultipliers.{MultipliersValue}
 use Rattle.um_multipliers.specs.Sizes.{AreBelow}
@@ -123,7 +124,7 @@ EmptyLaw = (d : DeckValue) (b : BoxValue) (before : State) (pivots : ℕ) (s : S
 -- the multipliers are small and those of rows of the deck, and the objective's is above 0, as an open leaf asks
 pub record OwnSays (d : DeckValue) (y : MultipliersValue) : Type 0 where
   pub positive : pos 0 <ℤ y.y0
-  pub below : AreBelow (2 ^ 40) y
+  pub below : AreBelow MULTIPLIER_SIZE y
   pub rising : HasRisingRows (length d.rows) y.rows
 
 -- What a node's own multipliers say, where they were read before the search stopped at it.

@@ -1,5 +1,5 @@
 -- How the run of the dual simplex method on the box of a node ends. `early` is how many pivots were made under the node's number before its box was put on the board.
-use Rattle.std.specs.Prelude.{◌≡◌, ℕ, ◌+◌, ◌^◌, ◌⊎◌, Option, Some, None}
+use Rattle.std.specs.Prelude.{◌≡◌, ℕ, ◌+◌, ◌⊎◌, Option, Some, None}
 use Rattle.um_num.specs.declared.exact.Wide.{Wide}
 use Rattle.um_model.specs.Values.{DeckValue, PointValue}
 use Rattle.um_multipliers.specs.PlainMultipliers.{MultipliersValue}
@@ -7,6 +7,7 @@ use Rattle.um_multipliers.specs.Sizes.{AreBelow}
 use Rattle.um_model.specs.Boxes.{BoxValue}
 use Rattle.um_model.specs.declared.answer.Why.{Why}
 use Rattle.um_model.specs.declared.answer.Why.TheVariants as why
+use Rattle.um_model.specs.declared.limits.TheConstants.{POINT_SIZE, MULTIPLIER_SIZE}
 use Rattle.um_lp.specs.States.{State}
 use Rattle.um_lp.specs.Refusals.{IsRefusedAt}
 use Rattle.um_lp.specs.DualSteps.{IsNext, Ended, NoPoint}
@@ -59,7 +60,7 @@ pub record WideEnds (d : DeckValue) (b : BoxValue) (before : State) (early pivot
 -- what is not read of a state in which the run has ended, and which multipliers of its own the node has then: those of its vertex where these were read, else none
 pub data IsUnread (s : State) (own : Option MultipliersValue) : Type 0 where
   OwnMultipliers : IsNext s Ended → own ≡ None → IsUnread s own
-  VertexValues : IsNext s Ended → own ≡ Some (multipliers s) → AreBelow (2 ^ 40) (multipliers s) → IsUnread s own
+  VertexValues : IsNext s Ended → own ≡ Some (multipliers s) → AreBelow MULTIPLIER_SIZE (multipliers s) → IsUnread s own
   FarkasMultipliers : (row : ℕ) → IsNext s (NoPoint row) → own ≡ None → IsUnread s own
 
 -- the run has ended, and its last state is not read: an operation of the reading is out of range, and that state is wide
@@ -76,7 +77,7 @@ pub record LargeMultipliers (d : DeckValue) (b : BoxValue) (before : State) (piv
   pub state : State
   pub run : IsRun d b before pivots state
   pub same : told ≡ number
-  pub cause : (IsNext state Ended × ¬ AreSmall (2 ^ 40) (slack_costs state)) ⊎ ((row : ℕ) × IsNext state (NoPoint row) × HasLargeFarkas (2 ^ 40) state row)
+  pub cause : (IsNext state Ended × ¬ AreSmall MULTIPLIER_SIZE (slack_costs state)) ⊎ ((row : ℕ) × IsNext state (NoPoint row) × HasLargeFarkas MULTIPLIER_SIZE state row)
   pub unread : own ≡ None
 
 -- the vertex has numbers that are too large; its multipliers are read
@@ -85,8 +86,8 @@ pub record LargeVertex (d : DeckValue) (b : BoxValue) (before : State) (pivots n
   pub run : IsRun d b before pivots state
   pub same : told ≡ number
   pub ended : IsNext state Ended
-  pub large : ¬ AreSmall (2 ^ 36) (natural_values state)
-  pub small : AreBelow (2 ^ 40) (multipliers state)
+  pub large : ¬ AreSmall POINT_SIZE (natural_values state)
+  pub small : AreBelow MULTIPLIER_SIZE (multipliers state)
   pub multipliers : own ≡ Some (multipliers state)
 
 -- the cause for which the search stopped at the node of this number, after so many pivots on its box, of those that were left, with the node's own multipliers where they were read
