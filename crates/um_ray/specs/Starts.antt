@@ -1,10 +1,11 @@
 -- How a start ended.
-use Rattle.std.specs.Prelude.{◌≡◌, ℕ, ◌^◌, ◌<◌, ℤ, pos, ◌<ℤ◌, unsigned_abs, List, All, ◌⊎◌, Result, Ok, Err}
+use Rattle.std.specs.Prelude.{◌≡◌, ℕ, ◌<◌, ℤ, pos, ◌<ℤ◌, unsigned_abs, List, All, ◌⊎◌, Result, Ok, Err}
 use Rattle.um_laws.specs.Rational.{Rational}
 use Rattle.um_num.specs.Listed.{Listed}
 use Rattle.um_num.specs.declared.exact.Wide.{Wide}
 use Rattle.um_model.specs.Values.{DeckValue}
 use Rattle.um_model.specs.Boxes.{root}
+use Rattle.um_model.specs.declared.limits.TheConstants.{RAY_SIZE}
 use Rattle.um_lp.specs.States.{State}
 use Rattle.um_lp.specs.Refusals.{IsRefusedAt}
 use Rattle.um_lp.specs.DualSteps.{IsNext, Ended}
@@ -50,7 +51,7 @@ pub record HasRay (d : DeckValue) (s : State) (pivots : ℕ) (t : State) : Type 
 
 -- numbers of a ray are below 2^62 in size
 abbrev pub AreRayNumbers : List ℤ → Type 0
-AreRayNumbers parts = All (λ (z : ℤ). unsigned_abs z < 2 ^ 62) parts
+AreRayNumbers parts = All (λ (z : ℤ). unsigned_abs z < RAY_SIZE) parts
 
 -- the values of the columns of this state are read, or one is refused
 abbrev pub IsRead : State → Result (Listed Rational) Wide → Type 0

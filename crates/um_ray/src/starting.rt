@@ -16,11 +16,9 @@ use crate::ends::{put_start_ends, wants_own_ends};
 use std::alloc::Global;
 use um_dual::Ended;
 use um_lp::{Board, Costs, Relaxation, Wide};
+use um_model::limits::RAY_SIZE;
 use um_num::{Frac, List, Memory};
 use um_relax::least_whole;
-
-/// Numbers of a ray are below this in size.
-const MOST_PART: u64 = 1 << 62;
 
 /// How a start ended.
 #[derive(Debug, Drop)]
@@ -116,7 +114,7 @@ fn read_ray<B: Board>(alloc: Global, relaxation: &Relaxation, board: &B) -> Resu
     ensures { IfOk result (λ started. EndedAs d started (B.state board.now)) }
 {
     match column_values(alloc, relaxation, board)? {
-        Ok(values) => match least_whole(alloc, values.as_slice(), MOST_PART)? {
+        Ok(values) => match least_whole(alloc, values.as_slice(), RAY_SIZE as u64)? {
             Some(whole) => Ok(Started::Ray(whole.parts)),
             None => Ok(Started::Large),
         },
