@@ -3,6 +3,7 @@ use Rattle.std.specs.Prelude.{◌≡◌, ◌+◌, ℕ, Bool, true, if◌then◌e
 use Rattle.std.specs.Option.{option_or}
 use Rattle.std.specs.List.{list_any}
 use Rattle.um_model.specs.Values.{DeckValue}
+use Rattle.um_model.specs.declared.limits.TheConstants.{MOST_DECK_BYTES}
 use Rattle.um_statements.specs.declared.fault.Fault.{Fault}
 use Rattle.um_statements.specs.declared.fault.Fault.TheVariants.{TooLong, NoEnd}
 use Rattle.um_statements.specs.Statements.{Statement}
@@ -65,7 +66,7 @@ first_broken lines = option_or (find (λ a. true) (broken lines)) (if list_any i
 -- The line and the fault of the first broken rule. A text of more than 2^24 bytes is too long, whatever its lines say.
 unfoldable pub text_fault : List ℕ → Option (ℕ × Fault)
 text_fault bytes =
-    if nat_lt 16777216 (length bytes) then Some (0, TooLong)
+    if nat_lt MOST_DECK_BYTES (length bytes) then Some (0, TooLong)
     else first_broken (deck_lines bytes)
 
 -- the deck that the lines up to ENDATA say
