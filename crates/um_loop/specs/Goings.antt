@@ -6,6 +6,7 @@ use Rattle.um_model.specs.Values.{DeckValue, PointValue, plain_point}
 use Rattle.um_model.specs.Feasible.{Feasible}
 use Rattle.um_model.specs.Accepted.{IsSmallPoint}
 use Rattle.um_model.specs.declared.answer.Why.TheVariants as why
+use Rattle.um_model.specs.declared.limits.TheConstants.{MOST_NUMBERS}
 use Rattle.um_lp.specs.States.{State}
 use Rattle.um_tree.specs.Growths.{GrowthValue, origin_at}
 use Rattle.um_cover.specs.Sites.{way, box_at}
@@ -119,7 +120,7 @@ pub record HaltedAt (d : DeckValue) (start : State) (most : ℕ) (s : Search) (h
   -- the last turn is counted, too
   pub solved : s.solved ≡ suc (length history)
   -- it is one of the first 100,000
-  pub few : length history < 100000
+  pub few : length history < MOST_NUMBERS
   -- the last turn, its pivots, and the node's own multipliers where they were read
   pub turn : Turn
   pub pivots : ℕ

@@ -20,6 +20,7 @@ use Rattle.um_solving.specs.declared.node.NodeEnd.TheVariants as end
 use Rattle.um_model.specs.declared.branch.Branch.{Branch}
 use Rattle.um_model.specs.declared.point.Point.{Point}
 use Rattle.um_model.specs.declared.tree.Solved.{Solved}
+use Rattle.um_model.specs.declared.limits.TheConstants.{MULTIPLIER_SIZE}
 use Rattle.um_tree.specs.Growths.{parted, settled}
 use Rattle.um_nodes.specs.declared.open_nodes.Key.{Key}
 use Rattle.um_nodes.specs.declared.open_nodes.OpenNode.{OpenNode}
@@ -204,7 +205,7 @@ pub record IsReadVertex (d : DeckValue) (b : BoxValue) (p : PointValue) (y : Mul
     : Type 0 where
   -- their numbers are small
   pub small : IsSmallPoint p
-  pub below : AreBelow (2 ^ 40) y
+  pub below : AreBelow MULTIPLIER_SIZE y
   -- what they mean for the deck, whichever costs the board takes
   pub says : HeldSays d b p y
   -- it is a point of the box, so that the branch that it asks for fits the box
@@ -226,7 +227,7 @@ EndSays d b ray (end.Vertex point y) =
     IsReadVertex d b (plain_point point) (plain_multipliers y)
     × (IsNone ray → VertexSays d b (plain_point point) (plain_multipliers y))
 EndSays d b ray (end.Empty y) =
-    AreBelow (2 ^ 40) (plain_multipliers y) × EmptySays d b (plain_multipliers y)
+    AreBelow MULTIPLIER_SIZE (plain_multipliers y) × EmptySays d b (plain_multipliers y)
 EndSays d b ray (end.Stopped cause own) = IfSome own (λ y. OwnSays d (plain_multipliers y))
 
 -- the node that was taken under these multipliers, which are its own; the key is theirs, with the

@@ -3,6 +3,7 @@
 ghost use Rattle.std.specs.Prelude.{◌≡◌, ◌≤◌, ◌+◌, ◌<ℤ◌, ◌↔◌, [], ◌++◌, length, pos, IsTrue, OnOk, IfSome};
 ghost use Rattle.um_model.specs.Branches.{Fits};
 ghost use Rattle.um_model.specs.Values.{plain_point};
+ghost use Rattle.um_model.specs.declared.limits.TheConstants.{MOST_NODES};
 ghost use Rattle.um_multipliers.specs.PlainMultipliers.{plain_multipliers};
 ghost use Rattle.um_bound.specs.Usable.{AreUsable};
 ghost use Rattle.um_point.specs.SmallPoints.{FitsMachine};
@@ -59,7 +60,7 @@ impl Search {
         y: Multipliers,
     ) -> Result<(), Memory>
         requires place { IsOpenAt self.old.growth id }
-        requires room { length self.old.growth.nodes + 2 ≤ 200001 }
+        requires room { length self.old.growth.nodes + 2 ≤ MOST_NODES }
         requires same_deck { node.old.deck ≡ deck.now }
         requires fits { Fits deck.now node.old.limits branch }
         requires no_arcs { deck.now.arcs ≡ [] }

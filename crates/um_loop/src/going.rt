@@ -2,6 +2,7 @@
 
 ghost use Rattle.std.specs.Prelude.{◌≡◌, ◌+◌, ◌≤◌, ◌<◌, [], length, option_map, IfOk, IfSome};
 ghost use Rattle.um_model.specs.Boxes.{IsVoid};
+ghost use Rattle.um_model.specs.declared.limits.TheConstants.{MOST_NODES, MOST_NUMBERS};
 ghost use Rattle.um_multipliers.specs.PlainMultipliers.{plain_multipliers};
 ghost use Rattle.um_deck.specs.Decks.{IsDeckNow};
 ghost use Rattle.um_lp.specs.Relaxations.{frame_of};
@@ -47,7 +48,7 @@ impl Search {
         requires relaxed { IsRelaxationOf deck.now relaxation.old }
         requires frame { frame_of relaxation.old ≡ deck_frame deck.now }
         requires going { IsGoing deck.now began.start began.most None self.old (B.state board.old) left.old }
-        requires budget { nodes ≤ 100000 }
+        requires budget { nodes ≤ MOST_NUMBERS }
         requires within { self.old.solved ≤ nodes }
         requires checkable { AreCheckable deck.now self.old.growth }
         ensures run { IfOk result (λ ending. HasRun deck.now began.start began.most nodes ending self.new (B.state board.new) left.new) }
@@ -89,7 +90,7 @@ impl Search {
         requires relaxed { IsRelaxationOf deck.now relaxation.old }
         requires frame { frame_of relaxation.old ≡ deck_frame deck.now }
         requires taken { HasTaken deck.now began.start began.most taken self.old (B.state board.old) left.old }
-        requires few { self.old.solved < 100000 }
+        requires few { self.old.solved < MOST_NUMBERS }
         requires checkable { AreCheckable deck.now self.old.growth }
         requires open_still { IsNotClosing deck.now self.old.incumbent taken.key }
         ensures same { relaxation.new ≡ relaxation.old }
@@ -134,8 +135,8 @@ impl Search {
         requires same_deck { node.old.deck ≡ deck.now }
         requires full { ¬ IsVoid deck.now node.old.limits }
         requires place { IsOpenAt self.old.growth taken.node }
-        requires room { length self.old.growth.nodes + 2 ≤ 200001 }
-        requires depth { taken.key.depth < 200001 }
+        requires room { length self.old.growth.nodes + 2 ≤ MOST_NODES }
+        requires depth { taken.key.depth < MOST_NODES }
         requires says { EndSays deck.now node.old.limits self.old.ray end }
         ensures { IfOk result (λ ending. HasSettled deck.now node.old.limits self.old taken solved end ending self.new) }
     {

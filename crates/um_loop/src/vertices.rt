@@ -7,6 +7,7 @@ ghost use Rattle.um_multipliers.specs.PlainMultipliers.{plain_multipliers};
 ghost use Rattle.um_bound.specs.Usable.{AreUsable};
 ghost use Rattle.um_deck.specs.Decks.{IsDeckNow};
 ghost use Rattle.um_model.specs.Branches.{Fits};
+ghost use Rattle.um_model.specs.declared.limits.TheConstants.{MOST_NODES, MULTIPLIER_SIZE};
 ghost use Rattle.um_nodes.specs.Keys.{IsKey};
 ghost use Rattle.um_tree.specs.Growths.{IsOpenAt};
 ghost use Rattle.um_loop.specs.Steps.{IsClosing, IsNotClosing, IsVertex, VertexLed, AfterVertex};
@@ -27,7 +28,7 @@ use um_split::branch_of;
 /// The bound of a key, where the key closes a node at the best point so far.
 pub(crate) fn closing(deck: &Deck, best: &Option<Incumbent>, key: &Key) -> Option<Frac>
     requires key { IsKey key.now }
-    requires y0 { key.now.y0 <ℤ pos (2 ^ 40) }
+    requires y0 { key.now.y0 <ℤ pos MULTIPLIER_SIZE }
     requires value { unsigned_abs key.now.value < 2 ^ 126 }
     ensures { MatchOption result (IsNotClosing deck.now best.now key.now) (IsClosing deck.now best.now key.now) }
 {
@@ -65,8 +66,8 @@ impl Search {
     ) -> Result<Option<Halt>, Memory>
         requires formed { IsDeckNow deck.now }
         requires place { IsOpenAt self.old.growth taken.now.node }
-        requires room { length self.old.growth.nodes + 2 ≤ 200001 }
-        requires depth { taken.now.key.depth < 200001 }
+        requires room { length self.old.growth.nodes + 2 ≤ MOST_NODES }
+        requires depth { taken.now.key.depth < MOST_NODES }
         requires same_deck { node.old.deck ≡ deck.now }
         requires full { ¬ IsVoid deck.now node.old.limits }
         requires no_arcs { deck.now.arcs ≡ [] }
@@ -92,13 +93,13 @@ impl Search {
         y: Multipliers,
     ) -> Result<Option<Halt>, Memory>
         requires place { IsOpenAt self.old.growth taken.now.node }
-        requires room { length self.old.growth.nodes + 2 ≤ 200001 }
-        requires depth { taken.now.key.depth < 200001 }
+        requires room { length self.old.growth.nodes + 2 ≤ MOST_NODES }
+        requires depth { taken.now.key.depth < MOST_NODES }
         requires same_deck { node.old.deck ≡ deck.now }
         requires no_arcs { deck.now.arcs ≡ [] }
         requires fits { IfSome asked (Fits deck.now node.old.limits) }
         requires key { IsKey key }
-        requires key_y0 { key.y0 <ℤ pos (2 ^ 40) }
+        requires key_y0 { key.y0 <ℤ pos MULTIPLIER_SIZE }
         requires key_value { unsigned_abs key.value < 2 ^ 126 }
         requires usable { AreUsable (length deck.now.rows) (plain_multipliers y) }
         requires y0 { pos 0 <ℤ y.y0 }
