@@ -24,11 +24,9 @@ use thiserror::Error;
 use um_deck::Deck;
 use um_decktext::Section;
 use um_maker::{DeckMaker, Fault};
+use um_model::limits::MOST_DECK_BYTES;
 use um_setsec::arc_line;
 use um_text::{Words, lines_of, words_of};
-
-/// The greatest number of bytes of a deck's text.
-const MOST_BYTES: usize = 16_777_216;
 
 /// Where a text breaks a rule first, and which.
 #[derive(Clone, Copy, PartialEq, Eq, Debug, Error)]
@@ -129,7 +127,7 @@ fn finish(maker: DeckMaker, number: u32) -> Result<Deck, ReadFault>
 
 /// Reads line by line. The text is short enough.
 fn read_lines(alloc: Global, bytes: &[u8]) -> Result<Deck, ReadFault>
-    requires { length bytes.now ≤ 16777216 }
+    requires { length bytes.now ≤ MOST_DECK_BYTES }
     ensures { MatchResult result (λ d. DeckText bytes.now d) (λ e. (e.fault ≡ fault.Memory) ⊎ DeckFault bytes.now e.line e.fault) }
 {
     let mut maker = DeckMaker::new(alloc);
@@ -160,7 +158,7 @@ fn read_lines(alloc: Global, bytes: &[u8]) -> Result<Deck, ReadFault>
 pub fn read(alloc: Global, bytes: &[u8]) -> Result<Deck, ReadFault>
     ensures { MatchResult result (λ d. DeckText bytes.now d) (λ e. (e.fault ≡ fault.Memory) ⊎ DeckFault bytes.now e.line e.fault) }
 {
-    if bytes.len() > MOST_BYTES {
+    if bytes.len() > MOST_DECK_BYTES {
         return Err(ReadFault {
             line: 0,
             fault: Fault::TooLong,
