@@ -4,6 +4,7 @@ use Rattle.um_text.specs.Decimals.{decimal_value}
 use Rattle.um_text.specs.Words.{is_word}
 use Rattle.um_model.specs.Values.{DeckValue}
 use Rattle.um_model.specs.WellFormed.{IsDeck}
+use Rattle.um_model.specs.declared.limits.TheConstants.{MOST_DECK_BYTES}
 use Rattle.um_statements.specs.Laws.{IsDeckOfObjective}
 use Rattle.um_statements.specs.Scaled.{times_ten, decimals}
 use Rattle.um_decktext.specs.Numbers.{number}
@@ -31,4 +32,4 @@ NormalLinesLaw = (d : DeckValue) → IsDeck d → HasWordNames d → deck_lines 
 -- The normal text of a deck whose arcs are in the objective is a deck text of that deck, and so of no other, where it is no
 -- longer than a text may be.
 abbrev pub RoundLaw : Type 0
-RoundLaw = (d : DeckValue) → IsDeckOfObjective d → HasWordNames d → length (normal_text d) ≤ 16777216 → DeckText (normal_text d) d
+RoundLaw = (d : DeckValue) → IsDeckOfObjective d → HasWordNames d → length (normal_text d) ≤ MOST_DECK_BYTES → DeckText (normal_text d) d
