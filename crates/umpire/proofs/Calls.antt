@@ -1,58 +1,71 @@
--- What a call does, where its words are a command, or none.
-use Rattle.std.proofs.Common.{◌≡◌, ℕ, List, refl, sym, subst, arith}
-use Rattle.std.specs.Prelude.{Option, Some, None}
-use Rattle.um_outside.specs.Scenes.{Scene}
+-- What a call does, by what its words ask for.
+use Rattle.std.proofs.lemmas.List.{append-nil}
+use Rattle.std.proofs.Common.{◌≡◌, ℕ, List, [], ◌∷◌, Option, Some, None, Result, Ok, Err, refl, sym, subst, arith, inl, inr}
+use Rattle.um_outside.specs.Scenes.{Scene, Asked, to_open}
+use Rattle.um_outside.specs.Desks.{Asks}
 use Rattle.um_outside.specs.Sinks.{SinkScene}
-use Rattle.umpire.specs.CheckRuns.{CheckNames, check_of, CheckRan}
-use Rattle.umpire.specs.Calls.{CallPromise}
-use Rattle.umpire.specs.SolveWords.{SolveLine, solve_of}
-use Rattle.umpire.specs.SolveRuns.{SolveRan}
-use Rattle.umpire.specs.PrintRuns.{print_of, PrintRan}
+use Rattle.um_words.specs.Commands.{job_of}
+use Rattle.um_words.specs.Faults.{OrMemory}
+use Rattle.um_words.specs.declared.job.Job.{Job}
+use Rattle.um_words.specs.declared.job.Job.TheVariants.{Check, Solve, Print}
+use Rattle.um_words.specs.declared.job.WordFault.{WordFault}
+use Rattle.um_words.specs.declared.job.WordFault.TheVariants.{Memory}
+use Rattle.umpire.specs.CheckRuns.{check_files}
+use Rattle.umpire.specs.SolveRuns.{solve_files}
 use Rattle.umpire.specs.Refusals.{refusal_text}
-use Rattle.umpire.specs.Runs.{RanAs, NoCommandRan, WordsDue, by_command}
-use Rattle.umpire.specs.Stops.{SaidOrNot}
+use Rattle.umpire.specs.Runs.{RanAs, WordsDue, by_job}
+use Rattle.umpire.specs.Stops.{GaveUp, StopsForWords}
 use Rattle.umpire.specs.declared.ending.Ending.{Ending}
-use Rattle.umpire.specs.declared.ending.Ending.TheVariants.{Refused}
-use Rattle.umpire.specs.declared.outcome.Refusal.TheVariants.{Words}
-use Rattle.umpire.specs.declared.outcome.WordFault.TheVariants.{Line}
+use Rattle.umpire.specs.declared.ending.Ending.TheVariants.{Refused, WithoutMemory}
+use Rattle.umpire.specs.declared.reading.Stop.{Stop}
+use Rattle.umpire.specs.declared.reading.Stop.TheVariants as stop
 use Rattle.umpire.proofs.Sayings.{said_comes}
-
--- ---- the commands that are left when the first ones are ruled out
-
-abbrev behind_solve : List (List ℕ) → CallPromise
-behind_solve words = by_command (print_of words) PrintRan NoCommandRan
-
-abbrev behind_check : List (List ℕ) → CallPromise
-behind_check words = by_command (solve_of words) SolveRan (behind_solve words)
+use Rattle.umpire.proofs.SolveCalls.{unmade_but}
 
 module _ (words : List (List ℕ)) (ending : Ending) (before after : Scene) (s t : SinkScene) where
-  -- the words are not the first command
-  not_check : check_of words ≡ None → behind_check words ending before after s t → RanAs words ending before after s t
-  not_check none h = subst (λ (o : Option CheckNames). by_command o CheckRan (behind_check words) ending before after s t) (sym none) h
+  -- the job was done
+  pub job_ran : (job : Job) → OrMemory (job_of words) (Ok job) → by_job (Ok job) ending before after s t → RanAs words ending before after s t
+  job_ran job (inl is) h = subst (λ (r : Result Job WordFault). by_job r ending before after s t) is h
+  job_ran job (inr none) h = cc
 
-  -- nor the second
-  not_solve : solve_of words ≡ None → behind_solve words ending before after s t → behind_check words ending before after s t
-  not_solve none h = subst (λ (o : Option SolveLine). by_command o SolveRan (behind_solve words) ending before after s t) (sym none) h
+-- no file was asked for
+none_asked : (o : Option (List Asked)) → Asks [] o o
+none_asked None = tt
+none_asked (Some files) = sym (append-nil files)
 
-  -- they are the first command
-  pub as_check : (names : CheckNames) → check_of words ≡ Some names → CheckRan names ending before after s t → RanAs words ending before after s t
-  as_check names is h = subst (λ (o : Option CheckNames). by_command o CheckRan (behind_check words) ending before after s t) (sym is) h
+-- no memory was found before any file was asked for
+without_memory : (r : Result Job WordFault) (desk : Scene) (s t : SinkScene) → t ≡ s → by_job r WithoutMemory desk desk s t
+without_memory (Ok (Check deck tree)) desk s t same = record {
+  comes = (record { faults = omega arith; stopped = refl }, same);
+  files = record { put = refl; holds = refl };
+  asked = record { front = []; behind = check_files (record { deck = deck; tree = tree }); all = refl; asked = none_asked desk.asked };
+}
+without_memory (Ok (Solve line)) desk s t same = record {
+  comes = (record { faults = omega arith; stopped = refl }, same);
+  files = unmade_but line.tree desk desk (record { put = refl; holds = refl });
+  alone = λ e. record { put = refl; holds = refl };
+  asked = record { front = []; behind = solve_files line; all = refl; asked = none_asked desk.asked };
+}
+without_memory (Ok (Print deck)) desk s t same = record {
+  comes = (record { faults = omega arith; stopped = refl }, same);
+  files = record { put = refl; holds = refl };
+  asked = record { front = []; behind = to_open deck ∷ []; all = refl; asked = none_asked desk.asked };
+}
+without_memory (Err fault) desk s t same = record {
+  comes = (record { faults = omega arith; stopped = refl }, same);
+  unopened = refl;
+}
 
-  -- the second
-  pub as_solve : (line : SolveLine) → check_of words ≡ None → solve_of words ≡ Some line → SolveRan line ending before after s t → RanAs words ending before after s t
-  as_solve line none is h = not_check none (subst (λ (o : Option SolveLine). by_command o SolveRan (behind_solve words) ending before after s t) (sym is) h)
-
-  -- the third
-  pub as_print : (deck : List ℕ) → check_of words ≡ None → solve_of words ≡ None → print_of words ≡ Some deck → PrintRan deck ending before after s t → RanAs words ending before after s t
-  as_print deck none other is h = not_check none (not_solve other (subst (λ (o : Option (List ℕ)). by_command o PrintRan NoCommandRan ending before after s t) (sym is) h))
-
-  -- they are none
-  as_none : check_of words ≡ None → solve_of words ≡ None → print_of words ≡ None → NoCommandRan ending before after s t → RanAs words ending before after s t
-  as_none none other third h = not_check none (not_solve other (subst (λ (o : Option (List ℕ)). by_command o PrintRan NoCommandRan ending before after s t) (sym third) h))
-
-pub as_words : (words : List (List ℕ)) (ending : Ending) (desk : Scene) (s t : SinkScene) → check_of words ≡ None → solve_of words ≡ None → print_of words ≡ None → SaidOrNot (refusal_text (Words Line)) (Refused (Words Line)) ending s t → RanAs words ending desk desk s t
-as_words words ending desk s t none other third said =
-    as_none words ending desk desk s t none other third (record {
-      comes = said_comes WordsDue ⊥ desk desk s t (Refused (Words Line)) ending (refusal_text (Words Line)) tt (refl, refl) (record { faults = omega arith; stopped = refl }) said;
+-- the words were refused, or no memory was found for them
+pub fault_ran : (words : List (List ℕ)) (fault : WordFault) (why : Stop) (ending : Ending) (desk : Scene) (s t : SinkScene) → OrMemory (job_of words) (Err fault) → StopsForWords fault why → GaveUp why ending s t → RanAs words ending desk desk s t
+fault_ran words fault (stop.Refused r) ending desk s t (inl is) (same, other) said =
+    subst (λ (x : Result Job WordFault). by_job x ending desk desk s t) is (record {
+      comes = said_comes (WordsDue fault) ⊥ desk desk s t (Refused r) ending (refusal_text r) tt (refl, same, other) (record { faults = omega arith; stopped = refl }) said;
       unopened = refl;
     })
+fault_ran words fault (stop.Refused r) ending desk s t (inr none) (same, other) said =
+    let memory : fault ≡ Memory = cc in
+    absurd (other memory)
+fault_ran words fault stop.Fault ending desk s t h k said = absurd k
+fault_ran words fault stop.Memory ending desk s t h k said =
+    subst (λ (x : Ending). RanAs words x desk desk s t) (sym said.0) (without_memory (job_of words) desk s t said.1)

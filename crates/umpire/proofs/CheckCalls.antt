@@ -12,7 +12,7 @@ use Rattle.umpire.specs.TreeFiles.{HasTree}
 use Rattle.umpire.specs.Findings.{IsFinding}
 use Rattle.umpire.specs.Refusals.{refusal_text}
 use Rattle.um_report.specs.Verdicts.{verdict_text}
-use Rattle.umpire.specs.Stops.{FileStopped, RefusesDeck, RefusesTree, SaidOrNot, GaveUp}
+use Rattle.umpire.specs.Stops.{FileStopped, RefusesDeck, RefusesTreeFile, SaidOrNot, GaveUp}
 use Rattle.umpire.specs.declared.ending.Ending.{Ending}
 use Rattle.umpire.specs.declared.ending.Ending.TheVariants.{Judged, Refused}
 use Rattle.umpire.specs.declared.outcome.Refusal.TheVariants.{Words, LowTolerance, Deck, Tree}
@@ -54,7 +54,7 @@ deck_stopped names stop.Fault s t h = record {
 deck_stopped names stop.Memory s t h = deck_keeps names s t h
 
 -- the deck was read, and the tree was not taken
-pub tree_stopped : (names : CheckNames) (d : DeckValue) (why : Stop) (s m t : Scene) → HasDeck names.deck d s m → FileStopped names.tree (RefusesTree d names.tree) why m t → CheckStopped names why s t
+pub tree_stopped : (names : CheckNames) (d : DeckValue) (why : Stop) (s m t : Scene) → HasDeck names.deck d s m → FileStopped names.tree (RefusesTreeFile d names.tree) why m t → CheckStopped names why s t
 tree_stopped names d (stop.Refused (Tree f)) s m t a h = (
   record { between = m; deck = d; deck_read = a; refused = h },
   both_keep names s m t (any_deck_left names.deck d s m a) (no_tree_left d names.tree f m t h),

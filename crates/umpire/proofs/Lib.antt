@@ -4,5 +4,4 @@ pub mod FileReads
 pub mod Sayings
 pub mod Reportable
 pub mod SolveCalls
-pub mod SolveForms
 pub mod PrintCalls

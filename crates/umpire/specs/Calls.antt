@@ -1,9 +1,11 @@
--- What a call comes to: the text that is due is written, or the desk or the output fails, or no memory is found.
+-- What a call comes to: the text that is due is written, or the desk or the output fails, or no
+-- memory is found.
 use Rattle.std.specs.Prelude.{◌≡◌, ℕ, ◌⊎◌, List, ◌++◌}
 use Rattle.um_outside.specs.Scenes.{Scene, Asked}
 use Rattle.um_outside.specs.Desks.{WentWell, Asks}
 use Rattle.um_outside.specs.Sinks.{SinkScene, Took, TookFront}
 use Rattle.umpire.specs.declared.ending.Ending.{Ending}
+use Rattle.umpire.specs.declared.ending.Ending.TheVariants.{Answered, Judged, Printed, Refused}
 use Rattle.umpire.specs.declared.ending.Ending.TheVariants.{Faulted, WithoutMemory}
 
 -- what a call does to the desk and the output, by how it ends
@@ -25,11 +27,21 @@ pub record CutShort (Due : Ending → List ℕ → Type 0) (s t : SinkScene) : T
   pub due : Due ending text
   pub written : TookFront text s t
 
--- What a call comes to, where `Due` says which ending is due with which text, and `Fails` how the desk may have failed. Nothing is written but what is due, and nothing where the desk failed or no memory was found.
-abbrev pub ComesTo : (Ending → List ℕ → Type 0) → Type 0 → Ending → Scene → Scene → SinkScene → SinkScene → Type 0
-ComesTo Due Fails Faulted before after s t = (Fails × (t ≡ s)) ⊎ (WentWell before after × CutShort Due s t)
+-- a call ended so, and wrote the text that is due then
+abbrev pub SaysDue : (Ending → List ℕ → Type 0) → CallPromise
+SaysDue Due ending before after s t = WentWell before after × Said (Due ending) s t
+
+-- What a call comes to, where `Due` says which ending is due with which text, and `Fails` how the
+-- desk may have failed. Nothing is written but what is due, and nothing where the desk failed or no
+-- memory was found.
+abbrev pub ComesTo : (Ending → List ℕ → Type 0) → Type 0 → CallPromise
+ComesTo Due Fails (Answered a) before after s t = SaysDue Due (Answered a) before after s t
+ComesTo Due Fails (Judged v) before after s t = SaysDue Due (Judged v) before after s t
+ComesTo Due Fails Printed before after s t = SaysDue Due Printed before after s t
+ComesTo Due Fails (Refused r) before after s t = SaysDue Due (Refused r) before after s t
+ComesTo Due Fails Faulted before after s t =
+    (Fails × (t ≡ s)) ⊎ (WentWell before after × CutShort Due s t)
 ComesTo Due Fails WithoutMemory before after s t = WentWell before after × (t ≡ s)
-ComesTo Due Fails ending before after s t = WentWell before after × Said (Due ending) s t
 
 -- ---- files
 

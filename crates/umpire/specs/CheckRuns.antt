@@ -1,5 +1,5 @@
 -- What the command `check DECK TREE` does: it says whether the tree proves its answer to the deck.
-use Rattle.std.specs.Prelude.{◌≡◌, ℕ, ◌⊎◌, ◌&&◌, List, [], ◌∷◌, Option, Some, None, if◌then◌else◌, codes, bytes_eq}
+use Rattle.std.specs.Prelude.{◌≡◌, ℕ, ◌⊎◌, List, [], ◌∷◌}
 use Rattle.um_outside.specs.Scenes.{Scene, Asked, to_open}
 use Rattle.um_outside.specs.Desks.{WentWell}
 use Rattle.um_outside.specs.Sinks.{SinkScene}
@@ -14,26 +14,20 @@ use Rattle.umpire.specs.TreeFiles.{HasTree, HasNoTree}
 use Rattle.umpire.specs.Findings.{IsFinding}
 use Rattle.umpire.specs.Refusals.{refusal_text}
 use Rattle.um_report.specs.Verdicts.{verdict_text}
-use Rattle.umpire.specs.Words.{is_plain}
 use Rattle.umpire.specs.declared.ending.Ending.{Ending}
-use Rattle.umpire.specs.declared.ending.Ending.TheVariants.{Judged, Refused}
+use Rattle.umpire.specs.declared.ending.Ending.TheVariants.{Answered, Judged, Printed, Refused}
+use Rattle.umpire.specs.declared.ending.Ending.TheVariants.{Faulted, WithoutMemory}
 use Rattle.umpire.specs.declared.outcome.Refusal.{Refusal}
-use Rattle.umpire.specs.declared.outcome.Refusal.TheVariants.{Deck, Tree}
-use Rattle.umpire.specs.declared.commands.check.CheckFiles.{CheckFiles}
+use Rattle.umpire.specs.declared.outcome.Refusal.TheVariants.{Words, LowTolerance, Deck, Tree}
 use Rattle.umpire.specs.declared.reading.Stop.{Stop}
 use Rattle.umpire.specs.declared.reading.Stop.TheVariants as stop
 
--- ---- the words
+-- ---- the files
 
 -- the names of the two files
 pub record CheckNames : Type 0 where
   pub deck : List ℕ
   pub tree : List ℕ
-
--- the files that the words `check DECK TREE` name; other words are not this command
-abbrev pub check_of : List (List ℕ) → Option CheckNames
-check_of (command ∷ deck ∷ tree ∷ []) = if bytes_eq command (codes "check") && is_plain deck && is_plain tree then Some (record { deck = deck; tree = tree }) else None
-check_of words = None
 
 -- the files that are asked for: the deck, then the tree
 abbrev pub check_files : CheckNames → List Asked
@@ -61,13 +55,17 @@ pub record RefusesTree (names : CheckNames) (f : TreeFault) (s t : Scene) : Type
 abbrev pub CheckRefuses : CheckNames → Refusal → Scene → Scene → Type 0
 CheckRefuses names (Deck fault) s t = HasNoDeck names.deck fault s t
 CheckRefuses names (Tree fault) s t = RefusesTree names fault s t
-CheckRefuses names other s t = ⊥
+CheckRefuses names (Words fault) s t = ⊥
+CheckRefuses names (LowTolerance least) s t = ⊥
 
 -- the line of the verdict on the files, or that of a refusal
 abbrev pub CheckDue : CheckNames → Scene → Scene → Ending → List ℕ → Type 0
 CheckDue names s t (Judged v) text = (text ≡ verdict_text v) × Judges names v s t
 CheckDue names s t (Refused r) text = (text ≡ refusal_text r) × CheckRefuses names r s t
-CheckDue names s t other text = ⊥
+CheckDue names s t (Answered a) text = ⊥
+CheckDue names s t Printed text = ⊥
+CheckDue names s t Faulted text = ⊥
+CheckDue names s t WithoutMemory text = ⊥
 
 -- ---- how the desk fails
 
@@ -84,8 +82,12 @@ CheckFails names s t = ReadFaulted names.deck s t ⊎ FailsAtTree names s t
 
 -- ---- the whole command
 
-pub record CheckRan (names : CheckNames) (ending : Ending) (before after : Scene) (s t : SinkScene) : Type 0 where
-  pub comes : ComesTo (CheckDue names before after) (CheckFails names before after) ending before after s t
+-- the text that is due was said, or the desk or the output failed, or no memory was found; no file
+-- was made, and of the two files a front was asked for, in this order
+pub record CheckRan
+    (names : CheckNames) (ending : Ending) (before after : Scene) (s t : SinkScene) : Type 0 where
+  pub comes :
+      ComesTo (CheckDue names before after) (CheckFails names before after) ending before after s t
   pub files : MakesNoFile before after
   pub asked : AsksInOrder (check_files names) before after
 
@@ -97,6 +99,7 @@ pub record CheckKeeps (names : CheckNames) (s t : Scene) : Type 0 where
   pub files : MakesNoFile s t
   pub asked : AsksInOrder (check_files names) s t
 
+-- the desk failed at one of the files, no file was made, and a front of these was asked for
 pub record CheckFaulted (names : CheckNames) (s t : Scene) : Type 0 where
   pub fails : CheckFails names s t
   pub files : MakesNoFile s t
@@ -112,7 +115,3 @@ abbrev pub CheckStopped : CheckNames → Stop → Scene → Scene → Type 0
 CheckStopped names (stop.Refused r) s t = CheckRefuses names r s t × CheckKeeps names s t
 CheckStopped names stop.Fault s t = CheckFaulted names s t
 CheckStopped names stop.Memory s t = CheckKeeps names s t
-
--- the names that the program holds
-abbrev pub names_of : CheckFiles → CheckNames
-names_of files = record { deck = files.deck.now; tree = files.tree.now }

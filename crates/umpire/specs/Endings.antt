@@ -5,12 +5,16 @@ use Rattle.um_model.specs.declared.answer.AnswerKind.TheVariants as kind
 use Rattle.um_model.specs.declared.verdict.Verdict.{Verdict}
 use Rattle.um_model.specs.declared.verdict.Verdict.TheVariants as verdict
 use Rattle.umpire.specs.declared.ending.Ending.{Ending}
-use Rattle.umpire.specs.declared.ending.Ending.TheVariants.{Answered, Judged, Printed, Refused as WasRefused, Faulted, WithoutMemory}
+use Rattle.umpire.specs.declared.ending.Ending.TheVariants.{Answered, Judged, Printed}
+use Rattle.umpire.specs.declared.ending.Ending.TheVariants.{Refused as WasRefused, Faulted}
+use Rattle.umpire.specs.declared.ending.Ending.TheVariants.{WithoutMemory}
 use Rattle.umpire.specs.declared.outcome.Outcome.{Outcome}
 use Rattle.umpire.specs.declared.outcome.Refusal.{Refusal}
 use Rattle.umpire.specs.declared.outcome.Refusal.TheVariants as refusal
 use Rattle.umpire.specs.declared.outcome.Status.{Status}
-use Rattle.umpire.specs.declared.outcome.Status.TheVariants.{Optimal, Infeasible, Unbounded, Limit, Overflow, Refused, Words, Fault, Memory, No}
+use Rattle.umpire.specs.declared.outcome.Status.TheVariants.{Optimal, Infeasible, Unbounded, Limit}
+use Rattle.umpire.specs.declared.outcome.Status.TheVariants.{Overflow, Refused, Words, Fault}
+use Rattle.umpire.specs.declared.outcome.Status.TheVariants.{Memory, No}
 
 -- the program's exit status
 abbrev pub status_number : Status → ℕ
@@ -42,7 +46,8 @@ verdict_status (verdict.No place reason) = No
 abbrev pub refusal_status : Refusal → Status
 refusal_status (refusal.Deck fault) = Refused
 refusal_status (refusal.Tree fault) = Refused
-refusal_status other = Words
+refusal_status (refusal.Words fault) = Words
+refusal_status (refusal.LowTolerance least) = Words
 
 -- the status of each ending
 abbrev pub status_of : Ending → Status
@@ -53,9 +58,15 @@ status_of (WasRefused r) = refusal_status r
 status_of Faulted = Fault
 status_of WithoutMemory = Memory
 
+-- an outcome with this status alone
+abbrev pub bare_outcome : Status → Outcome
+bare_outcome status = record { status = status; answer = None; verdict = None; refusal = None }
+
 -- an answer, a verdict or a refusal is told exactly where the call ended with it
 abbrev pub outcome_of : Ending → Outcome
-outcome_of (Answered a) = record { status = status_of (Answered a); answer = Some a; verdict = None; refusal = None }
-outcome_of (Judged v) = record { status = status_of (Judged v); answer = None; verdict = Some v; refusal = None }
-outcome_of (WasRefused r) = record { status = status_of (WasRefused r); answer = None; verdict = None; refusal = Some r }
-outcome_of other = record { status = status_of other; answer = None; verdict = None; refusal = None }
+outcome_of (Answered a) = record (bare_outcome (status_of (Answered a))) { answer = Some a }
+outcome_of (Judged v) = record (bare_outcome (status_of (Judged v))) { verdict = Some v }
+outcome_of Printed = bare_outcome (status_of Printed)
+outcome_of (WasRefused r) = record (bare_outcome (status_of (WasRefused r))) { refusal = Some r }
+outcome_of Faulted = bare_outcome (status_of Faulted)
+outcome_of WithoutMemory = bare_outcome (status_of WithoutMemory)

@@ -1,9 +1,7 @@
-pub mod Words
 pub mod Refusals
 pub mod Endings
 pub mod Calls
 pub mod CheckRuns
-pub mod SolveWords
 pub mod SolveRuns
 pub mod PrintRuns
 pub mod Stops

@@ -1,5 +1,5 @@
 -- What the command `print DECK` does: it writes the normal text of the deck.
-use Rattle.std.specs.Prelude.{◌≡◌, ℕ, ◌&&◌, List, [], ◌∷◌, Option, Some, None, if◌then◌else◌, codes, bytes_eq}
+use Rattle.std.specs.Prelude.{◌≡◌, ℕ, List, [], ◌∷◌}
 use Rattle.um_outside.specs.Scenes.{Scene, Asked, to_open}
 use Rattle.um_outside.specs.Desks.{WentWell}
 use Rattle.um_outside.specs.Sinks.{SinkScene}
@@ -9,20 +9,13 @@ use Rattle.um_make.specs.NormalLines.{normal_text}
 use Rattle.umpire.specs.Calls.{ComesTo, MakesNoFile, AsksInOrder}
 use Rattle.umpire.specs.DeckFiles.{HasDeck, HasNoDeck}
 use Rattle.umpire.specs.Refusals.{refusal_text}
-use Rattle.umpire.specs.Words.{is_plain}
 use Rattle.umpire.specs.declared.ending.Ending.{Ending}
-use Rattle.umpire.specs.declared.ending.Ending.TheVariants.{Printed, Refused}
+use Rattle.umpire.specs.declared.ending.Ending.TheVariants.{Answered, Judged, Printed, Refused}
+use Rattle.umpire.specs.declared.ending.Ending.TheVariants.{Faulted, WithoutMemory}
 use Rattle.umpire.specs.declared.outcome.Refusal.{Refusal}
-use Rattle.umpire.specs.declared.outcome.Refusal.TheVariants.{Deck}
+use Rattle.umpire.specs.declared.outcome.Refusal.TheVariants.{Words, LowTolerance, Deck, Tree}
 use Rattle.umpire.specs.declared.reading.Stop.{Stop}
 use Rattle.umpire.specs.declared.reading.Stop.TheVariants as stop
-
--- ---- the words
-
--- the deck's file that the words `print DECK` name; other words are not this command
-abbrev pub print_of : List (List ℕ) → Option (List ℕ)
-print_of (command ∷ deck ∷ []) = if bytes_eq command (codes "print") && is_plain deck then Some deck else None
-print_of words = None
 
 -- the file that is asked for
 abbrev pub print_files : (deck : List ℕ) → List Asked
@@ -39,19 +32,27 @@ pub record Prints (name : List ℕ) (text : List ℕ) (s t : Scene) : Type 0 whe
 -- what was read before this refusal
 abbrev pub PrintRefuses : List ℕ → Refusal → Scene → Scene → Type 0
 PrintRefuses name (Deck fault) s t = HasNoDeck name fault s t
-PrintRefuses name other s t = ⊥
+PrintRefuses name (Tree fault) s t = ⊥
+PrintRefuses name (Words fault) s t = ⊥
+PrintRefuses name (LowTolerance least) s t = ⊥
 
 -- the normal text of the deck, or the line of a refusal
 abbrev pub PrintDue : List ℕ → Scene → Scene → Ending → List ℕ → Type 0
 PrintDue name s t Printed text = Prints name text s t
 PrintDue name s t (Refused r) text = (text ≡ refusal_text r) × PrintRefuses name r s t
-PrintDue name s t other text = ⊥
+PrintDue name s t (Answered a) text = ⊥
+PrintDue name s t (Judged v) text = ⊥
+PrintDue name s t Faulted text = ⊥
+PrintDue name s t WithoutMemory text = ⊥
 
 -- ---- the whole command
 
--- the desk fails at the deck alone
-pub record PrintRan (name : List ℕ) (ending : Ending) (before after : Scene) (s t : SinkScene) : Type 0 where
-  pub comes : ComesTo (PrintDue name before after) (ReadFaulted name before after) ending before after s t
+-- the text that is due was said, or the desk, at the deck's file, or the output failed, or no
+-- memory was found; no file was made, and at most the deck's file was asked for
+pub record PrintRan
+    (name : List ℕ) (ending : Ending) (before after : Scene) (s t : SinkScene) : Type 0 where
+  pub comes :
+      ComesTo (PrintDue name before after) (ReadFaulted name before after) ending before after s t
   pub files : MakesNoFile before after
   pub asked : AsksInOrder (print_files name) before after
 

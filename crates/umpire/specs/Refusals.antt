@@ -4,8 +4,7 @@ use Rattle.um_statements.specs.declared.fault.Fault.{Fault}
 use Rattle.um_statements.specs.declared.fault.Fault.TheVariants as deck
 use Rattle.um_treetext.specs.declared.fault.TreeWord.{TreeWord}
 use Rattle.um_treetext.specs.declared.fault.TreeWord.TheVariants as tree
-use Rattle.umpire.specs.declared.outcome.WordFault.{WordFault}
-use Rattle.umpire.specs.declared.outcome.WordFault.TheVariants as words
+use Rattle.um_words.specs.Faults.{fault_word}
 use Rattle.umpire.specs.declared.outcome.Refusal.{Refusal}
 use Rattle.umpire.specs.declared.outcome.Refusal.TheVariants.{Words, LowTolerance, Deck, Tree}
 
@@ -45,11 +44,6 @@ deck_word deck.EmptySet = codes "EmptySet"
 deck_word deck.TwiceWeight = codes "TwiceWeight"
 deck_word deck.NotYet = codes "NotYet"
 deck_word deck.Memory = codes "Memory"
-
-abbrev pub fault_word : WordFault → List ℕ
-fault_word words.Line = codes "Line"
-fault_word words.Nodes = codes "Nodes"
-fault_word words.Pivots = codes "Pivots"
 
 abbrev pub tree_word : TreeWord → List ℕ
 tree_word tree.NoEnd = codes "NoEnd"

@@ -14,7 +14,8 @@ use Rattle.umpire.specs.DeckFiles.{HasDeckOf}
 abbrev pub HasSearchedDeck : List ℕ → DeckValue → Scene → Scene → Type 0
 HasSearchedDeck name d s t = HasDeckOf IsSearched name d s t
 
--- the answer is accepted by the checker, and right, and tells the search that it comes from, within the budget
+-- the answer is accepted by the checker, and right, and tells the search that it comes from, within
+-- the budget
 pub record Answers (d : DeckValue) (budget : Budget) (a : AnswerValue) : Type 0 where
   pub accepted : IsAccepted d a
   pub right : IsRight d a

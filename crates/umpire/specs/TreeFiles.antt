@@ -13,14 +13,18 @@ use Rattle.umpire.specs.DeckFiles.{HasOther}
 abbrev pub long_tree : TreeFault
 long_tree = record { line = 0; fault = tree.TooMany }
 
--- the file of this name was read to its end, has at most 2^31 bytes, and is the text of this answer for the deck
-pub record HasTree (d : DeckValue) (name : List ℕ) (a : AnswerValue) (s t : Scene) : Type 0 where
+-- the file of this name was read to its end, has at most 2^31 bytes, and is the text of this answer
+-- for the deck
+pub record HasTree
+    (d : DeckValue) (name : List ℕ) (a : AnswerValue) (s t : Scene) : Type 0 where
   pub bytes : List ℕ
   pub read : ReadWhole name bytes s t
   pub size : length bytes ≤ 2147483648
   pub text : TreeText d bytes a
 
--- why the file of this name is not taken as a tree for the deck: this is the first rule that its bytes break, or it has
--- more than 2^31 bytes
+-- why the file of this name is not taken as a tree for the deck: this is the first rule that its
+-- bytes break, or it has more than 2^31 bytes
 abbrev pub HasNoTree : DeckValue → List ℕ → TreeFault → Scene → Scene → Type 0
-HasNoTree d name f s t = HasOther (λ bytes. TreeFaultAt d bytes f.line f.fault) name s t ⊎ ((f ≡ long_tree) × ReadTooMuch name 2147483648 s t)
+HasNoTree d name f s t =
+    HasOther (λ bytes. TreeFaultAt d bytes f.line f.fault) name s t
+    ⊎ ((f ≡ long_tree) × ReadTooMuch name 2147483648 s t)

@@ -10,17 +10,16 @@
 
 mod commands;
 mod ending;
-pub mod laws;
 mod outcome;
 mod reading;
 mod refusals;
 mod saying;
 mod top;
-mod words;
 
-pub use outcome::{Outcome, Refusal, Status, WordFault};
+pub use outcome::{Outcome, Refusal, Status};
 pub use top::run;
 pub use um_model::{Reason, Verdict};
 pub use um_mps::ReadFault;
 pub use um_statements::Fault;
 pub use um_treetext::{TreeFault, TreeWord};
+pub use um_words::WordFault;

@@ -3,10 +3,10 @@
 ghost use Rattle.umpire.specs.Endings.{status_number};
 ghost use Rattle.std.specs.Prelude.{◌≡◌};
 
-use thiserror::Error;
 use um_model::{Answer, Verdict};
 use um_mps::ReadFault;
 use um_treetext::TreeFault;
+use um_words::WordFault;
 
 /// How a call ended. The number of a status, from 0 in this order, is the program's exit status.
 #[derive(Clone, Copy, PartialEq, Eq, Debug)]
@@ -47,20 +47,6 @@ impl Status {
             Status::No => 9,
         }
     }
-}
-
-/// Why the words of a command line are refused.
-#[derive(Clone, Copy, PartialEq, Eq, Debug, Error)]
-pub enum WordFault {
-    /// They are no command.
-    #[error("Line")]
-    Line,
-    /// The number of nodes is no whole numeral from 1 to 100,000.
-    #[error("Nodes")]
-    Nodes,
-    /// The number of pivots is no whole numeral from 1 to 10,000,000.
-    #[error("Pivots")]
-    Pivots,
 }
 
 /// What was refused. Want of memory is no refusal.

@@ -10,7 +10,7 @@ ghost use Rattle.umpire.specs.DeckFiles.{HasDeck};
 ghost use Rattle.umpire.specs.TreeFiles.{HasTree};
 ghost use Rattle.umpire.specs.Solutions.{HasSearchedDeck};
 ghost use Rattle.um_outside.specs.Scenes.{Idle};
-ghost use Rattle.umpire.specs.Stops.{FileStopped, RefusesDeck, RefusesDeckOf, RefusesTree, StopsFor, StopsForTree, TextStopped, TreeStopped};
+ghost use Rattle.umpire.specs.Stops.{FileStopped, RefusesDeck, RefusesDeckOf, RefusesTreeFile, StopsFor, StopsForTree, StopsForWords, TextStopped, TreeStopped};
 
 use crate::outcome::Refusal;
 use std::alloc::Global;
@@ -23,6 +23,7 @@ use um_outside::{Desk, FileFault, read_file};
 use um_search::is_searched;
 use um_statements::Fault;
 use um_treetext::{TreeFault, TreeWord};
+use um_words::WordFault;
 
 /// The most bytes of a deck.
 const MOST_DECK_BYTES: usize = 16_777_216;
@@ -123,7 +124,7 @@ pub(crate) fn read_tree<D: Desk>(
     requires going { (D.scene desk.old).stopped ≡ false }
     ensures ok { IfOk result (λ answer. HasTree deck.now name.now (plain_answer answer) (D.scene desk.old) (D.scene desk.new)) }
     ensures checkable { IfOk result (λ answer. IsCheckable deck.now (plain_answer answer)) }
-    ensures err { IfErr result (λ stop. FileStopped name.now (RefusesTree deck.now name.now) stop (D.scene desk.old) (D.scene desk.new)) }
+    ensures err { IfErr result (λ stop. FileStopped name.now (RefusesTreeFile deck.now name.now) stop (D.scene desk.old) (D.scene desk.new)) }
 {
     let bytes = match read_file(alloc, desk, name, MOST_TREE_BYTES) {
         Ok(bytes) => bytes,
@@ -163,5 +164,15 @@ fn tree_stop(fault: TreeFault) -> Stop
     match fault.fault {
         TreeWord::Memory => Stop::Memory,
         _ => Stop::Refused(Refusal::Tree(fault)),
+    }
+}
+
+/// Want of memory is no refusal.
+pub(crate) fn words_stop(fault: WordFault) -> Stop
+    ensures { StopsForWords fault result }
+{
+    match fault {
+        WordFault::Memory => Stop::Memory,
+        _ => Stop::Refused(Refusal::Words(fault)),
     }
 }

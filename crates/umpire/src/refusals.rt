@@ -1,9 +1,9 @@
 //! The lines of refusals.
 
 ghost use Rattle.std.specs.Prelude.{◌≡◌, IfOk, string_bytes};
-ghost use Rattle.umpire.specs.Refusals.{refusal_text, deck_word, fault_word, tree_word};
+ghost use Rattle.umpire.specs.Refusals.{refusal_text, deck_word, tree_word};
 
-use crate::outcome::{Refusal, WordFault};
+use crate::outcome::Refusal;
 use std::alloc::{AllocError, Global};
 use um_mps::ReadFault;
 use um_num::{List, Memory};
@@ -23,7 +23,7 @@ fn refusal_string(alloc: Global, refusal: &Refusal) -> Result<String, AllocError
 {
     match refusal {
         Refusal::Words(fault) => {
-            let word = fault_word(*fault);
+            let word = fault.word();
             format!(in alloc; "words refused: {word}\n")
         }
         Refusal::LowTolerance { least: _ } => { format!(in alloc; "words refused: LowTolerance\n") }
@@ -73,16 +73,6 @@ fn deck_word(fault: Fault) -> &'static str
         Fault::TwiceWeight => "TwiceWeight",
         Fault::NotYet => "NotYet",
         Fault::Memory => "Memory",
-    }
-}
-
-fn fault_word(fault: WordFault) -> &'static str
-    ensures { result.now ≡ fault_word fault }
-{
-    match fault {
-        WordFault::Line => "Line",
-        WordFault::Nodes => "Nodes",
-        WordFault::Pivots => "Pivots",
     }
 }
 

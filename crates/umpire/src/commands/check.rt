@@ -1,71 +1,54 @@
 //! `check DECK TREE`: whether a tree proves its answer to a deck.
 
-ghost use Rattle.std.specs.Prelude.{◌≡◌, false, map, option_map, string_bytes, IfOk, IfErr};
+ghost use Rattle.std.specs.Prelude.{◌≡◌, false, IfOk, IfErr};
 ghost use Rattle.um_model.specs.AnswerValues.{plain_answer};
 ghost use Rattle.um_model.specs.Checkable.{IsCheckable};
 ghost use Rattle.um_outside.specs.Scenes.{Idle};
-ghost use Rattle.umpire.specs.CheckRuns.{check_of, names_of, CheckRan, CheckStopped, HasJudged};
+ghost use Rattle.umpire.specs.CheckRuns.{CheckRan, CheckStopped, HasJudged};
 ghost use Rattle.umpire.specs.Findings.{IsFinding};
 
 use crate::ending::Ending;
 use crate::reading::{Stop, read_deck, read_tree};
 use crate::saying::{give_up, tell};
-use crate::words::is_plain;
 use std::alloc::Global;
 use um_check::Checker;
 use um_deck::Deck;
 use um_model::{Answer, Verdict};
 use um_outside::{Desk, Sink};
 
-/// The files of the command.
-#[derive(Clone, Copy, PartialEq, Eq, Debug)]
-pub struct CheckFiles<'w> {
-    pub deck: &'w str,
-    pub tree: &'w str,
-}
-
-/// The files that the words name, where they are this command.
-pub fn files_of(words: &[String]) -> Option<CheckFiles<'_>>
-    ensures { option_map names_of result ≡ check_of (map string_bytes words.now) }
-{
-    let [command, deck, tree] = words else {
-        return None;
-    };
-    let (deck, tree) = (deck.as_str(), tree.as_str());
-    if command.as_str() == "check" && is_plain(deck) && is_plain(tree) {
-        Some(CheckFiles { deck, tree })
-    } else {
-        None
-    }
-}
-
-/// Reads a deck and a tree, checks the tree, and writes the verdict.
+/// Reads the files of a deck and of a tree, checks the tree, and writes the verdict.
 pub fn check<D: Desk, O: Sink>(
     alloc: Global,
-    files: &CheckFiles<'_>,
+    deck_name: &str,
+    tree_name: &str,
     desk: &mut D,
     out: &mut O,
 ) -> Ending
     requires idle { (D.scene desk.old).mode ≡ Idle }
     requires going { (D.scene desk.old).stopped ≡ false }
     requires out_going { (O.told out.old).stopped ≡ false }
-    ensures { CheckRan (names_of files.now) result (D.scene desk.old) (D.scene desk.new) (O.told out.old) (O.told out.new) }
+    ensures { CheckRan (record { deck = deck_name.now; tree = tree_name.now }) result (D.scene desk.old) (D.scene desk.new) (O.told out.old) (O.told out.new) }
 {
-    match judge(alloc, desk, files) {
+    match judge(alloc, desk, deck_name, tree_name) {
         Ok(verdict) => tell(alloc, out, verdict),
         Err(stop) => give_up(alloc, out, stop),
     }
 }
 
 /// Reads a deck and then a tree, and checks the tree.
-fn judge<D: Desk>(alloc: Global, desk: &mut D, files: &CheckFiles<'_>) -> Result<Verdict, Stop>
+fn judge<D: Desk>(
+    alloc: Global,
+    desk: &mut D,
+    deck_name: &str,
+    tree_name: &str,
+) -> Result<Verdict, Stop>
     requires idle { (D.scene desk.old).mode ≡ Idle }
     requires going { (D.scene desk.old).stopped ≡ false }
-    ensures ok { IfOk result (λ verdict. HasJudged (names_of files.now) verdict (D.scene desk.old) (D.scene desk.new)) }
-    ensures err { IfErr result (λ stop. CheckStopped (names_of files.now) stop (D.scene desk.old) (D.scene desk.new)) }
+    ensures ok { IfOk result (λ verdict. HasJudged (record { deck = deck_name.now; tree = tree_name.now }) verdict (D.scene desk.old) (D.scene desk.new)) }
+    ensures err { IfErr result (λ stop. CheckStopped (record { deck = deck_name.now; tree = tree_name.now }) stop (D.scene desk.old) (D.scene desk.new)) }
 {
-    let deck = read_deck(alloc, desk, files.deck)?;
-    match read_tree(alloc, desk, &deck, files.tree) {
+    let deck = read_deck(alloc, desk, deck_name)?;
+    match read_tree(alloc, desk, &deck, tree_name) {
         Ok(answer) => verdict_on(alloc, &deck, &answer),
         Err(stop) => Err(stop),
     }

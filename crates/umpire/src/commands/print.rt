@@ -1,31 +1,16 @@
 //! `print DECK`: the normal text of a deck.
 
-ghost use Rattle.std.specs.Prelude.{◌≡◌, false, map, option_map, string_bytes, IfOk, IfErr};
+ghost use Rattle.std.specs.Prelude.{◌≡◌, false, IfOk, IfErr};
 ghost use Rattle.um_outside.specs.Scenes.{Idle};
-ghost use Rattle.umpire.specs.PrintRuns.{print_of, HasPrinted, PrintRan, PrintStopped};
+ghost use Rattle.umpire.specs.PrintRuns.{HasPrinted, PrintRan, PrintStopped};
 
 use crate::ending::Ending;
 use crate::reading::{Stop, read_deck};
 use crate::saying::{give_up, say};
-use crate::words::is_plain;
 use std::alloc::Global;
 use um_make::print as normal_text;
 use um_num::List;
 use um_outside::{Desk, Sink};
-
-/// The deck's file that the words name, where they are this command.
-pub fn file_of(words: &[String]) -> Option<&str>
-    ensures { option_map (λ name. name.now) result ≡ print_of (map string_bytes words.now) }
-{
-    let [command, deck] = words else {
-        return None;
-    };
-    if command.as_str() == "print" && is_plain(deck.as_str()) {
-        Some(deck.as_str())
-    } else {
-        None
-    }
-}
 
 /// Reads a deck, and writes its normal text.
 pub fn print<D: Desk, O: Sink>(alloc: Global, deck: &str, desk: &mut D, out: &mut O) -> Ending
