@@ -260,9 +260,9 @@ def constant(deck, given, reading, program):
                 deck.note("constant", f"the number {words[place]} of {row} in RHS, line {line.number}, is left out")
                 del words[place - 1 : place + 1]
             elif reading == "added":
-                turned = numeral(value_of(words[place]).copy_negate())
-                deck.note("constant", f"the number {words[place]} of {row} in RHS, line {line.number}, is written as {turned}")
-                words[place] = turned
+                other = numeral(value_of(words[place]).copy_negate())
+                deck.note("constant", f"the number {words[place]} of {row} in RHS, line {line.number}, is written as {other}")
+                words[place] = other
             elif reading is None:
                 deck.note("constant", f"the number {words[place]} of {row} in RHS, line {line.number}, is taken off; "
                           "--rhs-constant added is for a program that adds it")
@@ -272,10 +272,10 @@ def constant(deck, given, reading, program):
             else:
                 put_words(line, words)
     if given is not None and given != 0:
-        turned = numeral(given.copy_negate())
-        deck.note("constant", f"{numeral(given)} is written as {turned} of {objective} in RHS")
+        other = numeral(given.copy_negate())
+        deck.note("constant", f"{numeral(given)} is written as {other} of {objective} in RHS")
         name = [used] if used else [] if lines else ["RHS"]
-        lines.append(Line(0, " " + " ".join(name + [objective, turned])))
+        lines.append(Line(0, " " + " ".join(name + [objective, other])))
 
 
 # The rule `infinity`
@@ -582,10 +582,12 @@ def main():
     parser = argparse.ArgumentParser(prog="dialects.py", description=__doc__.split("\n")[0])
     parser.add_argument("source", metavar="IN")
     parser.add_argument("target", metavar="OUT")
-    parser.add_argument("--as", dest="program", choices=["glpsol", "cbc", "lp_solve"], help="the program that the deck is of")
+    parser.add_argument("--as", dest="program", choices=["glpsol", "cbc", "lp_solve"],
+                        help="the program that the deck is of")
     parser.add_argument("--max", action="store_true", help="the objective is maximised")
     parser.add_argument("--min", action="store_true", help="the objective is minimised")
-    parser.add_argument("--turned", action="store_true", help="the deck minimises the negative of a maximum, but for its constant")
+    parser.add_argument("--turned", action="store_true",
+                        help="the deck minimises the negative of a maximum, but for its constant")
     parser.add_argument("--constant", type=number_word, metavar="X", help="X is added to the objective")
     parser.add_argument("--rhs-constant", choices=["added", "taken"],
                         help="the number of the objective in RHS is added to it, or taken off")
