@@ -2,9 +2,14 @@
 //! to [`umpire::run`], and ends with the number of its status.
 //!
 //! Where no memory is found for the words nothing is called, and the status is 8; where the system
-//! refuses them for another cause it is 7.
+//! refuses them for another cause it is 7. On standard error stands what the status leaves open.
 #![tactic(auto)]
 
+mod desk;
+mod messages;
+
+use crate::desk::NamingDesk;
+use crate::messages::{explain, no_memory};
 use std::process::ExitCode;
 use std::{env, io};
 use um_outside::{FileDesk, StdSink};
@@ -19,12 +24,14 @@ fn main(rt: HostRuntime) -> ExitCode {
     let words = match words_of(&rt) {
         Ok(words) => words,
         Err(error) if error.kind() == io::ErrorKind::OutOfMemory => {
+            let _ = no_memory(&rt);
             return ExitCode::from(Status::Memory.number());
         }
         Err(_) => return ExitCode::from(Status::Fault.number()),
     };
-    let mut desk = FileDesk::new(&rt);
+    let mut desk = NamingDesk::new(rt.alloc(), FileDesk::new(&rt));
     let mut out = StdSink::new(&rt);
     let outcome = run(rt.alloc(), words.as_slice(), &mut desk, &mut out);
+    let _ = explain(&rt, words.as_slice(), &outcome, &desk);
     ExitCode::from(outcome.status.number())
 }
