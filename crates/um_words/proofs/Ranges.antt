@@ -1,21 +1,21 @@
 -- A job's numbers are in range, since a number out of it is a fault.
-use Rattle.std.proofs.Common.{◌≡◌, ℕ, ◌≤◌, ℤ, pos, negsuc, Bool, true, false, ◌&&◌, Option, Some, None, Result, Ok, Err, IfOk, IfSome, option_map, List, refl, sym, subst, ap, ◌∙◌, inl, inr, arith, leb-true}
+use Rattle.std.proofs.Common.{◌≡◌, ℕ, ◌≤◌, ℤ, pos, negsuc, Bool, true, false, ◌&&◌, Option, Some, None, Result, Ok, Err, IfOk, IfSome, option_map, List, refl, sym, subst, inl, inr, arith, leb-true}
 use Rattle.std.specs.Prelude.{if◌then◌else◌, nat_le}
 use Rattle.um_text.specs.Numerals.{whole_number}
 use Rattle.um_text.specs.declared.numeral.NumberFault.{NumberFault}
 use Rattle.um_words.specs.Words.{Word}
 use Rattle.um_words.specs.Values.{in_range, number_asked}
 use Rattle.um_words.specs.Faults.{OrMemory, and_then, or_fault}
-use Rattle.um_words.specs.CheckWords.{CheckLine, check_of, check_said, check_words}
-use Rattle.um_words.specs.PrintWords.{print_of, print_said, print_words}
-use Rattle.um_words.specs.SolveWords.{SolveLine, solve_of, solve_said, solve_words}
+use Rattle.um_words.specs.CheckWords.{CheckLine, check_of, check_said}
+use Rattle.um_words.specs.PrintWords.{print_of, print_said}
+use Rattle.um_words.specs.SolveWords.{SolveLine, solve_of, solve_said}
 use Rattle.um_words.specs.Commands.{job_of, or_else}
 use Rattle.um_words.specs.Ranges.{IsInRange}
 use Rattle.um_words.specs.declared.job.Job.{Job}
 use Rattle.um_words.specs.declared.job.Job.TheVariants.{Solve, Check, Print}
 use Rattle.um_words.specs.declared.job.WordFault.{WordFault}
 use Rattle.um_words.specs.declared.solve.SolveNumbers.{SolveNumbers}
-use Rattle.um_words.specs.declared.job.WordFault.TheVariants.{Line, Nodes, Pivots, Memory}
+use Rattle.um_words.specs.declared.job.WordFault.TheVariants.{Line, Nodes, Pivots}
 use Rattle.um_words.proofs.Walks.{both}
 
 -- a number from 1 to the most

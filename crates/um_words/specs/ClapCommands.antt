@@ -1,4 +1,5 @@
--- The commands as clap sees them: no option or file is required, as only plain lines are handed to it.
+-- The commands as clap sees them: no option or file is required, as only plain lines are handed to
+-- it.
 use Rattle.std.specs.Prelude.{List, [], ◌∷◌, Some, codes}
 use Rattle.clap.specs.Words.{App, Rule, Text, new_app, new_rule, with_rule}
 

@@ -13,8 +13,9 @@ abbrev pub or_else : Option (Result Job WordFault) → Result Job WordFault → 
 or_else (Some said) otherwise = said
 or_else None otherwise = otherwise
 
--- The job that the words ask for, or why they ask for none. These are the commands that are read; words of no such
--- command are no line. The commands have different first words, so that their order is free.
+-- The job that the words ask for, or why they ask for none. These are the commands that are read;
+-- words of no such command are no line. The commands have different first words, so that their
+-- order is free.
 abbrev pub job_of : List Word → Result Job WordFault
 job_of words =
     or_else (check_words words)

@@ -20,7 +20,8 @@ abbrev pub as_some : Result Job WordFault → Result (Option Job) WordFault
 as_some (Ok job) = Ok (Some job)
 as_some (Err fault) = Err fault
 
--- where the words are this command what is said of them holds, or no memory was found; else there is no job
+-- where the words are this command what is said of them holds, or no memory was found; else there
+-- is no job
 abbrev pub Reads : Option (Result Job WordFault) → Result (Option Job) WordFault → Type 0
 Reads None r = r ≡ Ok None
 Reads (Some said) r = OrMemory (as_some said) r
@@ -31,6 +32,7 @@ or_fault (Some x) fault = Ok x
 or_fault None fault = Err fault
 
 -- what is said of a value that is there
-abbrev pub and_then : {X Y : Type 0} → Result X WordFault → (X → Result Y WordFault) → Result Y WordFault
+abbrev pub and_then :
+    {X Y : Type 0} → Result X WordFault → (X → Result Y WordFault) → Result Y WordFault
 and_then (Ok x) next = next x
 and_then (Err fault) next = Err fault

@@ -1,5 +1,5 @@
 -- The numbers that a job asks for are in range.
-use Rattle.std.specs.Prelude.{ℕ, ◌≤◌, ⊤}
+use Rattle.std.specs.Prelude.{◌≤◌, ⊤}
 use Rattle.um_words.specs.declared.job.Job.{Job}
 use Rattle.um_words.specs.declared.job.Job.TheVariants.{Solve, Check, Print}
 use Rattle.um_words.specs.declared.job.SolveWords.{SolveWords}

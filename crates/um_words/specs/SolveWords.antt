@@ -1,5 +1,6 @@
 -- The words of the command `solve DECK`, with options behind the deck in any order.
-use Rattle.std.specs.Prelude.{◌≡◌, ◌&&◌, List, [], ◌∷◌, Option, Some, None, option_map, Result, Ok, if◌then◌else◌, codes, bytes_eq}
+use Rattle.std.specs.Prelude.{◌≡◌, ◌&&◌, List, [], ◌∷◌, Option, Some, None, option_map, Result, Ok}
+use Rattle.std.specs.Prelude.{if◌then◌else◌, codes, bytes_eq}
 use Rattle.clap.specs.Words.{first_value}
 use Rattle.clap.specs.declared.parser.matches.Found.{Found}
 use Rattle.um_words.specs.Words.{Word, is_plain, are_options, value_of}
@@ -40,9 +41,9 @@ solve_of (command ∷ deck ∷ options) =
     else None
 solve_of words = None
 
--- the most nodes and the most pivots of the line: each is a number from 1 on, and the most that may be asked for where
--- none is named; the first value that is out of its range is told, the nodes before the pivots, whatever the order of
--- the words
+-- the most nodes and the most pivots of the line: each is a number from 1 on, and the most that may
+-- be asked for where none is named; the first value that is out of its range is told, the nodes
+-- before the pivots, whatever the order of the words
 abbrev pub numbers_said : SolveLine → Result SolveNumbers WordFault
 numbers_said line =
     and_then (or_fault (number_asked 100000 line.nodes) Nodes) (λ nodes.

@@ -1,5 +1,6 @@
 -- The values of options: which words stand for them.
-use Rattle.std.specs.Prelude.{ℕ, ℤ, pos, nat_abs, int_le, ◌&&◌, Option, Some, None, Result, Ok, Err, if◌then◌else◌}
+use Rattle.std.specs.Prelude.{ℕ, ℤ, pos, nat_abs, int_le, ◌&&◌, Option, Some, None, Result, Ok, Err}
+use Rattle.std.specs.Prelude.{if◌then◌else◌}
 use Rattle.um_text.specs.Numerals.{whole_number}
 use Rattle.um_text.specs.declared.numeral.NumberFault.{NumberFault}
 use Rattle.um_words.specs.Words.{Word}

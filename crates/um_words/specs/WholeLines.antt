@@ -1,5 +1,7 @@
--- The words of `solve` by the whole line: the deck, and behind it options with their values in some order.
-use Rattle.std.specs.Prelude.{◌≡◌, ◌≢◌, ◌↔◌, List, [], ◌∷◌, All, AllPairs, IsTrue, Option, Some, option_map, codes, bytes_eq}
+-- The words of `solve` by the whole line: the deck, and behind it options with their values in some
+-- order.
+use Rattle.std.specs.Prelude.{◌≡◌, ◌≢◌, ◌↔◌, List, [], ◌∷◌, All, AllPairs, IsTrue, Option, Some}
+use Rattle.std.specs.Prelude.{option_map, codes, bytes_eq}
 use Rattle.std.specs.List.{find}
 use Rattle.um_words.specs.Words.{Word, is_option, is_plain}
 use Rattle.um_words.specs.SolveWords.{SolveLine, solve_of, solve_options}
@@ -25,9 +27,11 @@ AreApart pairs = AllPairs (λ a b. a.option ≢ b.option) pairs
 
 -- the value of this option, where it is among the pairs
 abbrev pub value_in : Word → List Pair → Option Word
-value_in option pairs = option_map (λ pair. pair.value) (find (λ pair. bytes_eq pair.option option) pairs)
+value_in option pairs =
+    option_map (λ pair. pair.value) (find (λ pair. bytes_eq pair.option option) pairs)
 
--- the words are `solve`, the deck and such pairs in some order, and the line is found from the pairs
+-- the words are `solve`, the deck and such pairs in some order, and the line is found from the
+-- pairs
 pub record IsWholeLine (words : List Word) (line : SolveLine) : Type 0 where
   pub pairs : List Pair
   pub is : words ≡ codes "solve" ∷ line.deck ∷ pair_words pairs
@@ -40,4 +44,5 @@ pub record IsWholeLine (words : List Word) (line : SolveLine) : Type 0 where
 
 -- words are this command exactly where they are such a line
 abbrev pub SolveWordsLaw : Type 0
-SolveWordsLaw = (words : List Word) (line : SolveLine) → (solve_of words ≡ Some line) ↔ IsWholeLine words line
+SolveWordsLaw =
+    (words : List Word) (line : SolveLine) → (solve_of words ≡ Some line) ↔ IsWholeLine words line
