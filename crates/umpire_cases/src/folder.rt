@@ -82,10 +82,26 @@ fn desk_of(folder: &Folder<'_>, words: &Vec<String>, made: &Vec<Made>) -> Result
     ensures going { IfOk result (λ desk. (scene_of desk).stopped ≡ false) }
 {
     let mut desk = MemoryDesk::new(folder.rt.alloc(), MOST_BYTES);
-    for word in words.iter() {
-        lay(folder, &mut desk, word, made)?;
-    }
+    lay_all(folder, &mut desk, words.as_slice(), made)?;
     Ok(desk)
+}
+
+/// Lays the files of these names on the desk, and makes room for them.
+fn lay_all(
+    folder: &Folder<'_>,
+    desk: &mut MemoryDesk,
+    names: &[String],
+    made: &Vec<Made>,
+) -> Result<()>
+    requires { (scene_of desk.old).mode ≡ Idle }
+    ensures idle { OnOk result ((scene_of desk.new).mode ≡ Idle) }
+    ensures going { OnOk result ((scene_of desk.new).stopped ≡ (scene_of desk.old).stopped) }
+{
+    let Some((name, rest)) = names.split_first() else {
+        return Ok(());
+    };
+    lay(folder, desk, name, made)?;
+    lay_all(folder, desk, rest, made)
 }
 
 /// Lays the file of this name on the desk, where there is one, and makes room for it.
