@@ -12,4 +12,5 @@ pub mod NamedFacts
 pub mod DeckFaults
 pub mod NumbersFit
 pub mod ToldFacts
+pub mod DeckMade
 pub mod ArcSteps

@@ -23,6 +23,5 @@ mod sets;
 mod sides;
 mod told;
 
-pub use made::DeckParts;
 pub use parts::{ColumnPart, RowPart, SetPart};
 pub use told::Told;

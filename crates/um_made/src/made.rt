@@ -11,22 +11,10 @@ use crate::named::{named_columns, named_rows, named_sets};
 use crate::rows::{Objective, SidedRow};
 use crate::told::Told;
 use std::alloc::Global;
-use um_model::{Arc, Column, Member, OrderedSet, Row};
+use um_deck::DeckParts;
+use um_model::Member;
 use um_num::{List, Memory, Name};
 use um_statements::Fault;
-
-/// The parts of a deck but for its name and sense.
-#[derive(Debug, Drop)]
-pub struct DeckParts {
-    pub objective_name: Name,
-    /// The objective's scale.
-    pub scale: u8,
-    pub constant: i64,
-    pub rows: List<Row>,
-    pub columns: List<Column>,
-    pub sets: List<OrderedSet>,
-    pub arcs: List<Arc>,
-}
 
 impl Told {
     ghost use Rattle.um_statements.specs.WellSaid.{IsSaid};
@@ -84,7 +72,9 @@ impl Told {
         )?;
         let constant = constant_of(self.maximise, objective.side);
         Ok(DeckParts {
+            name: self.name,
             objective_name,
+            maximise: self.maximise,
             scale: objective.scale,
             constant,
             rows: named_rows(alloc, self.rows, rows)?,

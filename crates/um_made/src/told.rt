@@ -4,9 +4,11 @@ use crate::{ColumnPart, RowPart, SetPart};
 use um_num::{List, Name};
 use um_statements::ArcPart;
 
-/// What was said of a deck but for its name, without a fault of a single statement.
+/// What was said of a deck, without a fault of a single statement.
 #[derive(Drop)]
 pub struct Told {
+    /// May be empty.
+    pub name: Name,
     pub maximise: bool,
     pub rows: Vec<(Name, RowPart)>,
     pub columns: Vec<(Name, ColumnPart)>,

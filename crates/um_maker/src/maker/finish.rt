@@ -5,7 +5,7 @@ ghost use Rattle.std.specs.Prelude.{◌≡◌, [], IfOk, unwrap_or};
 use crate::Fault;
 use crate::maker::DeckMaker;
 use std::alloc::Global;
-use um_deck::{Deck, DeckParts};
+use um_deck::Deck;
 use um_made::Told;
 use um_num::{Memory, Name};
 
@@ -31,29 +31,16 @@ impl DeckMaker {
             sided_rows: _,
             arc_columns: _,
         } = self;
-        let name = name_or_empty(alloc, name)?;
-        let rows = rows.into_list(alloc)?;
-        let columns = columns.into_list(alloc)?;
-        let sets = sets.into_list(alloc)?;
         let told = Told {
+            name: name_or_empty(alloc, name)?,
             maximise,
-            rows,
-            columns,
-            sets,
+            rows: rows.into_list(alloc)?,
+            columns: columns.into_list(alloc)?,
+            sets: sets.into_list(alloc)?,
             arcs,
         };
         match told.parts(alloc) {
-            Ok(parts) => Ok(Deck::from_parts(DeckParts {
-                name,
-                objective_name: parts.objective_name,
-                maximise,
-                scale: parts.scale,
-                constant: parts.constant,
-                rows: parts.rows,
-                columns: parts.columns,
-                sets: parts.sets,
-                arcs: parts.arcs,
-            })),
+            Ok(parts) => Ok(Deck::from_parts(parts)),
             Err(fault) => Err(fault),
         }
     }
