@@ -5,11 +5,11 @@ use Rattle.um_words.specs.declared.job.WordFault.{WordFault}
 use Rattle.um_words.specs.declared.job.WordFault.TheVariants.{Line, Nodes, Pivots, Memory}
 
 -- the word that names a fault
-abbrev pub fault_word : WordFault → List ℕ
-fault_word Line = codes "Line"
-fault_word Nodes = codes "Nodes"
-fault_word Pivots = codes "Pivots"
-fault_word Memory = codes "Memory"
+abbrev pub words_fault_word : WordFault → List ℕ
+words_fault_word Line = codes "Line"
+words_fault_word Nodes = codes "Nodes"
+words_fault_word Pivots = codes "Pivots"
+words_fault_word Memory = codes "Memory"
 
 -- this is the answer, or no memory was found for it
 abbrev pub OrMemory : {X : Type 0} → Result X WordFault → Result X WordFault → Type 0

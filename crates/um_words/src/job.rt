@@ -1,7 +1,7 @@
 //! What a command line asks for.
 
 ghost use Rattle.std.specs.Prelude.{◌≡◌};
-ghost use Rattle.um_words.specs.Faults.{fault_word};
+ghost use Rattle.um_words.specs.Faults.{words_fault_word};
 
 use thiserror::Error;
 use um_num::FileName;
@@ -46,7 +46,7 @@ pub enum WordFault {
 impl WordFault {
     /// The word that names the fault in a refusal.
     pub fn word(self) -> &'static str
-        ensures { result.now ≡ fault_word self }
+        ensures { result.now ≡ words_fault_word self }
     {
         match self {
             WordFault::Line => "Line",

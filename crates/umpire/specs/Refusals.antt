@@ -2,7 +2,7 @@
 use Rattle.std.specs.Prelude.{ℕ, List, [], ◌∷◌, ◌++◌, codes, decimal}
 use Rattle.um_statements.specs.FaultWords.{fault_word}
 use Rattle.um_treetext.specs.FaultWords.{tree_fault_word}
-use Rattle.um_words.specs.Faults.{fault_word as words_fault_word}
+use Rattle.um_words.specs.Faults.{words_fault_word}
 use Rattle.umpire.specs.declared.outcome.Refusal.{Refusal}
 use Rattle.umpire.specs.declared.outcome.Refusal.TheVariants.{Words, LowTolerance, Deck, Tree}
 

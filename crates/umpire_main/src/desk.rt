@@ -2,7 +2,7 @@
 
 ghost use Rattle.std.specs.Prelude.{◌≡◌, ◌<◌, length, false, is_err, IfSome};
 ghost use Rattle.um_outside.specs.Scenes.{Idle, IsReading, IsWriting, IsOpen};
-ghost use Rattle.um_outside.specs.Desks.{Opens, Reads, Creates, Writes, Closes};
+ghost use Rattle.um_outside.specs.Desks.{OpensFile, ReadsFile, CreatesFile, WritesFile, ClosesFile};
 ghost use Rattle.um_outside.specs.declared.asked.Access.TheVariants as access;
 
 use std::alloc::Global;
@@ -55,7 +55,7 @@ impl<D: Desk> Desk for NamingDesk<D> {
     fn open_file(&mut self, name: &str) -> Result<(), Failed>
         requires idle { (D.scene self.old.desk).mode ≡ Idle }
         requires going { (D.scene self.old.desk).stopped ≡ false }
-        ensures scene { Opens name.now (D.scene self.old.desk) result (D.scene self.new.desk) }
+        ensures scene { OpensFile name.now (D.scene self.old.desk) result (D.scene self.new.desk) }
         ensures last { IfSome self.new.last (λ asked. (asked.access ≡ access.Open) × (asked.name ≡ name.now)) }
         ensures failed { self.new.failed ≡ is_err result }
     {
@@ -69,7 +69,7 @@ impl<D: Desk> Desk for NamingDesk<D> {
         requires reading { IsReading (D.scene self.old.desk).mode }
         requires going { (D.scene self.old.desk).stopped ≡ false }
         requires room { 0 < length into.old }
-        ensures scene { Reads into.new (D.scene self.old.desk) result (D.scene self.new.desk) }
+        ensures scene { ReadsFile into.new (D.scene self.old.desk) result (D.scene self.new.desk) }
         ensures last { self.new.last ≡ self.old.last }
         ensures failed { self.new.failed ≡ is_err result }
     {
@@ -81,7 +81,7 @@ impl<D: Desk> Desk for NamingDesk<D> {
     fn create_file(&mut self, name: &str) -> Result<(), Failed>
         requires idle { (D.scene self.old.desk).mode ≡ Idle }
         requires going { (D.scene self.old.desk).stopped ≡ false }
-        ensures scene { Creates name.now (D.scene self.old.desk) result (D.scene self.new.desk) }
+        ensures scene { CreatesFile name.now (D.scene self.old.desk) result (D.scene self.new.desk) }
         ensures last { IfSome self.new.last (λ asked. (asked.access ≡ access.Create) × (asked.name ≡ name.now)) }
         ensures failed { self.new.failed ≡ is_err result }
     {
@@ -95,7 +95,7 @@ impl<D: Desk> Desk for NamingDesk<D> {
         requires writing { IsWriting (D.scene self.old.desk).mode }
         requires going { (D.scene self.old.desk).stopped ≡ false }
         requires some { 0 < length from.now }
-        ensures scene { Writes from.now (D.scene self.old.desk) result (D.scene self.new.desk) }
+        ensures scene { WritesFile from.now (D.scene self.old.desk) result (D.scene self.new.desk) }
         ensures last { self.new.last ≡ self.old.last }
         ensures failed { self.new.failed ≡ is_err result }
     {
@@ -107,7 +107,7 @@ impl<D: Desk> Desk for NamingDesk<D> {
     fn close_file(&mut self) -> Result<(), Failed>
         requires open { IsOpen (D.scene self.old.desk).mode }
         requires going { (D.scene self.old.desk).stopped ≡ false }
-        ensures scene { Closes (D.scene self.old.desk) result (D.scene self.new.desk) }
+        ensures scene { ClosesFile (D.scene self.old.desk) result (D.scene self.new.desk) }
         ensures last { self.new.last ≡ self.old.last }
         ensures failed { self.new.failed ≡ is_err result }
     {
