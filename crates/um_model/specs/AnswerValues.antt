@@ -19,13 +19,15 @@ use Rattle.um_model.specs.declared.tree.What.TheVariants as what
 pub data WhatValue : Type 0 where
   -- it was divided by this branch; its left and its right tree follow
   Split : Branch → WhatValue
-  -- these multipliers show that no point of its box beats the answer
+  -- these multipliers show that no feasible point of its box beats the answer by more than the
+  -- tolerance
   Bounded : MultipliersValue → WhatValue
   -- these multipliers show that its box has no feasible point
   Empty : MultipliersValue → WhatValue
   -- the low end of this column is above its high end
   Void : ℕ → WhatValue
-  -- the search stopped before it; these multipliers bound its box
+  -- the search stopped before it or in it; the bound of these multipliers is what is known of its
+  -- box
   OpenLeaf : MultipliersValue → WhatValue
 
 -- a node of a tree: when it was solved, if it was, and what became of it

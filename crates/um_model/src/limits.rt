@@ -1,11 +1,15 @@
 //! The limits: how large a deck, an answer, a search and their numbers may be.
 //!
-//! Each limit stands here once, with its unit, and definitions, contracts and code cite it by its
-//! name. A limit called `MOST_..` may be reached, and a size called `.._SIZE` may not.
+//! Each limit stands here with its unit, and definitions, contracts and code above cite it by its
+//! name. A limit called `MOST_..` may be reached, and a size called `.._SIZE` may not. That each is
+//! the number that stands here is a law, [`limits_law`], so that no limit changes unseen.
 //!
 //! Limits of crates that know nothing of decks stay there: below which size a number counts as
-//! narrow (`um_num`), how many digits a numeral has (`um_text`), and how many places for grid
-//! points a board has for each column with an arc (`um_lp`).
+//! narrow (`um_num`), how many digits a numeral has (`um_text`), how many places for grid points a
+//! board has for each column with an arc (`um_lp`), and the most nodes and pivots that a command
+//! line may ask for (`um_words`).
+
+ghost use Rattle.um_model.specs.Limits.{LimitsAre};
 
 use um_multipliers::Multipliers;
 
@@ -40,7 +44,7 @@ pub const MOST_SCALE: u32 = 6;
 /// The greatest size of a side of a row and of the objective's constant, scaled.
 pub const MOST_SIDE: u64 = 1 << 53;
 
-/// The greatest size of the range of a row, scaled.
+/// The greatest size of the range of a row, scaled: both its sides lie within `MOST_SIDE`.
 pub const MOST_RANGE: u64 = 1 << 54;
 
 /// The greatest size of a coefficient and of a cost, scaled.
@@ -83,3 +87,8 @@ pub const MOST_NUMBERS: u32 = 100_000;
 
 /// The most pivots that a search may make.
 pub const MOST_PIVOTS: u64 = 10_000_000;
+
+/// The limits are these numbers.
+pub fn limits_law()
+    ensures { LimitsAre }
+{}

@@ -6,7 +6,8 @@ ghost use Rattle.um_model.specs.WellFormed.{IsWithin};
 ghost use Rattle.um_model.specs.Feasible.{Between, IsMultipleOf};
 ghost use Rattle.um_model.specs.declared.limits.TheConstants.{MOST_SIDE};
 
-/// A number as a numerator over a denominator.
+/// A number as a numerator over a denominator. It is compared with sides and ends, which all lie within the limit of
+/// a row's side.
 #[derive(Clone, Copy)]
 pub struct Quotient {
     pub num: i128,

@@ -10,7 +10,7 @@ use Rattle.um_model.specs.AnswerValues.{AnswerValue, OpenLeaf}
 use Rattle.um_model.specs.declared.answer.Why.{Why}
 use Rattle.um_model.specs.declared.answer.Why.TheVariants as why
 use Rattle.um_model.specs.declared.answer.AnswerKind.{AnswerKind}
-use Rattle.um_model.specs.declared.answer.AnswerKind.TheVariants.{Unbounded}
+use Rattle.um_model.specs.declared.answer.AnswerKind.TheVariants as kind
 use Rattle.um_lp.specs.States.{State}
 use Rattle.um_dual.specs.Methods.{IsDue}
 use Rattle.um_relax.specs.Runs.{IsRun}
@@ -210,8 +210,11 @@ pub record TellsUnbounded (d : DeckValue) (budget : Budget) (a : AnswerValue) : 
 
 -- what an answer of this kind tells
 abbrev pub TellsOf : AnswerKind → DeckValue → Budget → AnswerValue → Type 0
-TellsOf Unbounded d budget a = TellsUnbounded d budget a
-TellsOf other d budget a = TellsSearch d budget a
+TellsOf kind.Optimal d budget a = TellsSearch d budget a
+TellsOf kind.Infeasible d budget a = TellsSearch d budget a
+TellsOf kind.Unbounded d budget a = TellsUnbounded d budget a
+TellsOf kind.Limit d budget a = TellsSearch d budget a
+TellsOf kind.Overflow d budget a = TellsSearch d budget a
 
 -- an answer tells the search that it came from; an unbounded one up to its feasible point
 abbrev pub TellsAnswer : DeckValue → Budget → AnswerValue → Type 0

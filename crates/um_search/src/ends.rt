@@ -10,6 +10,7 @@ ghost use Rattle.um_model.specs.Right.{IsRight};
 ghost use Rattle.um_model.specs.Values.{plain_point};
 ghost use Rattle.um_model.specs.WellFormed.{IsDeck};
 ghost use Rattle.um_model.specs.declared.leaf.Leaf.{Leaf};
+ghost use Rattle.um_model.specs.declared.limits.TheConstants.{MULTIPLIER_SIZE};
 ghost use Rattle.um_tree.specs.Growths.{settled};
 ghost use Rattle.um_cover.specs.Sites.{box_at};
 ghost use Rattle.um_nodes.specs.Keys.{IsKey};
@@ -181,7 +182,7 @@ fn leave_open(
 /// The bounds with that of one more node, by its key, of whichever multipliers and value it is.
 fn count(deck: &Deck, bounds: Bounds, key: &Key) -> Bounds
     requires key { IsKey key.now }
-    requires y0 { key.now.y0 <ℤ pos (2 ^ 40) }
+    requires y0 { key.now.y0 <ℤ pos MULTIPLIER_SIZE }
     requires value { unsigned_abs key.now.value < 2 ^ 126 }
     ensures { (leaf : Leaf) (y0 : ℤ) → pos 0 <ℤ y0 → KeyIs leaf y0 key.now → Counts bounds.endless bounds.least (bound_in deck.now y0 leaf) result.endless result.least }
 {

@@ -11,7 +11,7 @@ use Rattle.um_statements.specs.declared.parts.Ends.{Ends}
 use Rattle.um_statements.specs.declared.parts.EntryPart.{EntryPart}
 use Rattle.um_statements.specs.declared.parts.MemberPart.{MemberPart}
 use Rattle.um_statements.specs.declared.parts.ArcPart.{ArcPart}
-use Rattle.um_statements.specs.Statements.{Name, Statement, EntryTold, Side, Range, Bound, MemberTold, ArcTold}
+use Rattle.um_statements.specs.Statements.{Name, Statement, Title, Sense, RowTold, Column, EntryTold, Side, Range, Bound, Set, MemberTold, ArcTold}
 use Rattle.um_statements.specs.Said.{Said, RowSaid, ColumnSaid, SetSaid}
 use Rattle.um_statements.specs.Scaled.{IsShortDecimal}
 use Rattle.um_statements.specs.CallRules.{is_n, is_zero, objective_place}
@@ -30,7 +30,11 @@ HasNumbers (Range row value) = IsNumber value
 HasNumbers (Bound kind column value) = ForSome value IsNumber
 HasNumbers (MemberTold column weight) = ForSome weight IsNumber
 HasNumbers (ArcTold row column value) = IsNumber value
-HasNumbers other = Unit {0}
+HasNumbers (Title name) = Unit {0}
+HasNumbers (Sense maximise) = Unit {0}
+HasNumbers (RowTold kind name) = Unit {0}
+HasNumbers (Column name integer) = Unit {0}
+HasNumbers (Set kind name reference) = Unit {0}
 
 -- ---- rows
 

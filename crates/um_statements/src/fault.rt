@@ -32,7 +32,7 @@ pub enum Fault {
     UnknownColumn,
     /// A row's name comes again.
     TwiceRow,
-    /// A column comes again after another one.
+    /// A column comes again after another one, or after a marker.
     TwiceColumn,
     /// A number of a column and row, a side or a range of a row, or an arc comes again.
     TwiceEntry,
@@ -54,7 +54,7 @@ pub enum Fault {
     TooFine,
     /// A number is above its limit.
     TooLarge,
-    /// The threshold of a semicontinuous column is below 0 or infinite.
+    /// The threshold of a semicontinuous column is below 0 or minus infinity.
     SemiLower,
     /// A low end, or a threshold, is above the high end.
     CrossedBounds,

@@ -3,7 +3,8 @@
 ghost use Rattle.std.specs.Prelude.{◌≡◌};
 ghost use Rattle.um_words.specs.Faults.{words_fault_word};
 
-use thiserror::Error;
+use std::error::Error;
+use std::fmt;
 use um_num::FileName;
 
 /// What `solve` is asked for.
@@ -27,19 +28,15 @@ pub enum Job {
 }
 
 /// Why the words of a command line are refused.
-#[derive(Clone, Copy, PartialEq, Eq, Debug, Error)]
+#[derive(Clone, Copy, PartialEq, Eq, Debug)]
 pub enum WordFault {
     /// They are no command.
-    #[error("Line")]
     Line,
     /// The number of nodes is no whole numeral from 1 to 100,000.
-    #[error("Nodes")]
     Nodes,
     /// The number of pivots is no whole numeral from 1 to 10,000,000.
-    #[error("Pivots")]
     Pivots,
     /// No memory was found. This is no fault of the words.
-    #[error("Memory")]
     Memory,
 }
 
@@ -56,3 +53,11 @@ impl WordFault {
         }
     }
 }
+
+impl fmt::Display for WordFault {
+    fn fmt<W: fmt::Write>(&self, f: &mut fmt::Formatter<W>) -> fmt::Result {
+        f.write_str(self.word())
+    }
+}
+
+impl Error for WordFault {}

@@ -20,7 +20,7 @@ use std::alloc::{AllocError, Global};
 const OPTIONS: [&str; 3] = ["--nodes", "--pivots", "--tree"];
 
 /// The most nodes and pivots that may be asked for, and what a search has that is not told how many.
-const MOST_NODES: u64 = 100_000;
+const MOST_SOLVED_NODES: u64 = 100_000;
 
 const MOST_PIVOTS: u64 = 10_000_000;
 
@@ -157,7 +157,7 @@ fn job_of(alloc: Global, files: &SolveFiles<'_>) -> Result<Job, WordFault>
 fn numbers_of(files: &SolveFiles<'_>) -> Result<SolveNumbers, WordFault>
     ensures { result ≡ numbers_said (line_of files.now) }
 {
-    let Some(nodes) = number_asked(files.nodes, MOST_NODES) else {
+    let Some(nodes) = number_asked(files.nodes, MOST_SOLVED_NODES) else {
         return Err(WordFault::Nodes);
     };
     let Some(pivots) = number_asked(files.pivots, MOST_PIVOTS) else {

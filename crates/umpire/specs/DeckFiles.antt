@@ -3,6 +3,7 @@ use Rattle.std.specs.Prelude.{◌≡◌, ℕ, ◌⊎◌, List}
 use Rattle.um_outside.specs.Scenes.{Scene}
 use Rattle.um_outside.specs.WholeFiles.{ReadWhole, ReadTooMuch}
 use Rattle.um_model.specs.Values.{DeckValue}
+use Rattle.um_model.specs.declared.limits.TheConstants.{MOST_DECK_BYTES}
 use Rattle.um_statements.specs.declared.fault.Fault.TheVariants as deck
 use Rattle.um_decktext.specs.DeckText.{DeckText, DeckFault}
 use Rattle.um_mps.specs.declared.reader.ReadFault.{ReadFault}
@@ -54,14 +55,14 @@ pub record HasOther
   pub other : IsNoText bytes
 
 -- why the file of this name is not taken as a deck: this is the first rule that its bytes break, or
--- it has more than 2^24 bytes
+-- it has more bytes than a deck may have
 abbrev pub HasNoDeck : List ℕ → ReadFault → Scene → Scene → Type 0
 HasNoDeck name f s t =
     HasOther (λ bytes. DeckFault bytes f.line f.fault) name s t
-    ⊎ ((f ≡ long_deck) × ReadTooMuch name 16777216 s t)
+    ⊎ ((f ≡ long_deck) × ReadTooMuch name MOST_DECK_BYTES s t)
 
 -- the same of a file that is not taken as a deck for a command
 abbrev pub HasNoDeckOf : (DeckValue → Type 0) → List ℕ → ReadFault → Scene → Scene → Type 0
 HasNoDeckOf IsTaken name f s t =
     HasOther (λ bytes. IsNoTextOf IsTaken bytes f) name s t
-    ⊎ ((f ≡ long_deck) × ReadTooMuch name 16777216 s t)
+    ⊎ ((f ≡ long_deck) × ReadTooMuch name MOST_DECK_BYTES s t)

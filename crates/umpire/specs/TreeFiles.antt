@@ -4,6 +4,7 @@ use Rattle.um_outside.specs.Scenes.{Scene}
 use Rattle.um_outside.specs.WholeFiles.{ReadWhole, ReadTooMuch}
 use Rattle.um_model.specs.Values.{DeckValue}
 use Rattle.um_model.specs.AnswerValues.{AnswerValue}
+use Rattle.um_model.specs.declared.limits.TheConstants.{MOST_TREE_BYTES}
 use Rattle.um_treetext.specs.declared.fault.TreeFault.{TreeFault}
 use Rattle.um_treetext.specs.declared.fault.TreeWord.TheVariants as tree
 use Rattle.um_treetext.specs.Reading.{TreeText, TreeFaultAt}
@@ -13,18 +14,18 @@ use Rattle.umpire.specs.DeckFiles.{HasOther}
 abbrev pub long_tree : TreeFault
 long_tree = record { line = 0; fault = tree.TooMany }
 
--- the file of this name was read to its end, has at most 2^31 bytes, and is the text of this answer
+-- the file of this name was read to its end, has no more bytes than a tree may have, and is the text of this answer
 -- for the deck
 pub record HasTree
     (d : DeckValue) (name : List ℕ) (a : AnswerValue) (s t : Scene) : Type 0 where
   pub bytes : List ℕ
   pub read : ReadWhole name bytes s t
-  pub size : length bytes ≤ 2147483648
+  pub size : length bytes ≤ MOST_TREE_BYTES
   pub text : TreeText d bytes a
 
 -- why the file of this name is not taken as a tree for the deck: this is the first rule that its
--- bytes break, or it has more than 2^31 bytes
+-- bytes break, or it has more bytes than a tree may have
 abbrev pub HasNoTree : DeckValue → List ℕ → TreeFault → Scene → Scene → Type 0
 HasNoTree d name f s t =
     HasOther (λ bytes. TreeFaultAt d bytes f.line f.fault) name s t
-    ⊎ ((f ≡ long_tree) × ReadTooMuch name 2147483648 s t)
+    ⊎ ((f ≡ long_tree) × ReadTooMuch name MOST_TREE_BYTES s t)

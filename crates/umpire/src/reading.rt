@@ -17,6 +17,7 @@ use std::alloc::Global;
 use thiserror::Error;
 use um_deck::Deck;
 use um_model::Answer;
+use um_model::limits::{MOST_DECK_BYTES, MOST_TREE_BYTES};
 use um_mps::{ReadFault, read};
 use um_num::Memory;
 use um_outside::{Desk, FileFault, read_file};
@@ -24,12 +25,6 @@ use um_search::is_searched;
 use um_statements::Fault;
 use um_treetext::{TreeFault, TreeWord};
 use um_words::WordFault;
-
-/// The most bytes of a deck.
-const MOST_DECK_BYTES: usize = 16_777_216;
-
-/// The most bytes of a tree.
-const MOST_TREE_BYTES: usize = 2_147_483_648;
 
 /// The refusal of a deck that is not solved yet.
 const UNTAKEN: ReadFault = ReadFault {
