@@ -1,29 +1,16 @@
-//! Runs of the dual simplex method on the dense board, worked out by hand.
+//! Searches on a board that is handed in: they give what a search on a board of its own gives.
 
-ghost use Rattle.std.specs.Prelude.{◌≡◌, [], IfOk, IsTrue};
-ghost use Rattle.um_lp.specs.Boards.{IsStart};
-ghost use Rattle.um_lp.specs.DualSteps.{IsDualFeasible};
-ghost use Rattle.um_lp.specs.Relaxations.{frame_of};
-ghost use Rattle.um_model.specs.Boxes.{root as root_of};
-ghost use Rattle.um_model.specs.Values.{DeckValue};
-ghost use Rattle.um_model.specs.WellFormed.{IsDeck};
-ghost use Rattle.um_relax.specs.Relaxations.{IsRelaxationOf};
-ghost use Rattle.um_duality.specs.Relaxed.{StandsFor, deck_frame};
-ghost use Rattle.um_solving.specs.Laws.{MayBegin};
+ghost use Rattle.std.specs.Prelude.{IfOk};
 ghost use Rattle.um_search.specs.Conditions.{IsSearched, IsBudget};
 
 use std::alloc::Global;
 use std::process::Abort;
 use std::test::Fail;
-use um_box::NodeBox;
 use um_deck::Deck;
-use um_dual::Ended;
-use um_lp::Board;
-use um_model::{Multipliers, Point, Price, What};
+use um_model::{Multipliers, Point, What};
 use um_mps::read;
 use um_num::Memory;
-use um_opening::{Opened, open};
-use um_relax::{Large, Reboxed, Relaxation, build, farkas, multipliers, rebox, vertex};
+use um_relax::build;
 use um_search::{Answer, AnswerKind, Budget, is_searched, solve, solve_on};
 use um_tableau::Tableau;
 
@@ -132,146 +119,6 @@ fn runs(rt: HostRuntime) -> Result<(), Fail> {
         assert_eq!(rt; other.bound, answer.bound);
         is_at(&rt, &other.point, point);
         have_same_leaf(&rt, &answer, &other);
-    }
-    Ok(())
-}
-
-/// Opens a board that starts and puts the root's ends on it; false where the opening shows a ray, or where
-/// either is refused.
-fn put_root<B: Board>(
-    alloc: Global,
-    root: &NodeBox<'_>,
-    relaxation: &mut Relaxation,
-    board: &mut B,
-) -> Result<bool, Memory>
-    ghost d: { DeckValue }
-    requires same_deck { root.now.deck ≡ d }
-    requires formed { IsDeck root.now.deck }
-    requires plain { d.arcs ≡ [] }
-    requires root { root.now.limits ≡ root_of root.now.deck }
-    requires relaxed { IsRelaxationOf d relaxation.old }
-    requires starts { IsStart (deck_frame d) (B.state board.old) }
-    ensures same { relaxation.new ≡ relaxation.old }
-    ensures put { IfOk result (λ put. IsTrue put → StandsFor root.now.deck (B.state board.new) × IsDualFeasible (B.state board.new)) }
-{
-    let mut left = 10;
-    let Opened::WithCosts = open(alloc, relaxation, board, &mut left)? else {
-        return Ok(false);
-    };
-    Ok(put_ends(root, relaxation, board))
-}
-
-/// Puts the root's ends on a board; false where one is refused.
-fn put_ends<B: Board>(root: &NodeBox<'_>, relaxation: &mut Relaxation, board: &mut B) -> bool
-    requires formed { IsDeck root.now.deck }
-    requires plain { root.now.deck.arcs ≡ [] }
-    requires root { root.now.limits ≡ root_of root.now.deck }
-    requires relaxed { IsRelaxationOf root.now.deck relaxation.old }
-    requires begins { MayBegin root.now.deck (B.state board.old) }
-    ensures same { relaxation.new ≡ relaxation.old }
-    ensures put { IsTrue result → StandsFor root.now.deck (B.state board.new) × IsDualFeasible (B.state board.new) }
-{
-    match rebox(relaxation, board, root) {
-        Reboxed::Done => true,
-        Reboxed::Full(_) | Reboxed::Wide(_) => false,
-    }
-}
-
-/// What is read from a board whose steps have ended.
-#[derive(Drop)]
-struct Reading {
-    /// Those of the vertex, or of Farkas where there is none.
-    y: Multipliers,
-    point: Option<Point>,
-}
-
-/// Takes steps on a board with the root's ends, and reads what they ended at.
-fn read_end<B: Board>(
-    alloc: Global,
-    root: &NodeBox<'_>,
-    relaxation: &Relaxation,
-    board: &mut B,
-) -> Result<Option<Reading>, Large>
-    requires relaxed { IsRelaxationOf root.now.deck relaxation.now }
-    requires frame { frame_of relaxation.now ≡ deck_frame root.now.deck }
-    requires stands { StandsFor root.now.deck (B.state board.old) }
-    requires feasible { IsDualFeasible (B.state board.old) }
-{
-    let _ = root;
-    let mut left = 10;
-    match um_dual::solve(board, &mut left) {
-        Ended::Optimal => {
-            let y = multipliers(alloc, relaxation, board)?;
-            let point = Some(vertex(alloc, relaxation, board)?);
-            Ok(Some(Reading { y, point }))
-        }
-        Ended::NoPoint(row) => {
-            let y = farkas(alloc, relaxation, board, row)?;
-            Ok(Some(Reading { y, point: None }))
-        }
-        Ended::OutOfPivots | Ended::Wide(_) => Ok(None),
-    }
-}
-
-/// What is read at the root of a deck.
-fn read_root_of(alloc: Global, deck: &Deck) -> Result<Option<Reading>, Large>
-    requires { IsSearched deck.now }
-{
-    deck.known();
-    let root = NodeBox::root(alloc, deck)?;
-    let mut relaxation = build(alloc, deck)?;
-    let mut board = Tableau::new(alloc, &relaxation)?;
-    if put_root(alloc, &root, &mut relaxation, &mut board)? {
-        read_end(alloc, &root, &relaxation, &mut board)
-    } else {
-        Ok(None)
-    }
-}
-
-/// A deck, the first multiplier and those of the rows, and the point.
-const READINGS: [(&[u8], i128, &[Price], &[i128]); 2] = [
-    (
-        THREE,
-        4,
-        &[Price { row: 0, value: -3 }, Price { row: 1, value: -2 }],
-        &[2, 6, 3],
-    ),
-    (NO_POINT, 0, &[Price { row: 0, value: -1 }], &[]),
-];
-
-#[test]
-fn readings(rt: HostRuntime) -> Result<(), Fail> {
-    for (text, y0, prices, point) in READINGS {
-        let deck = deck_of(rt.alloc(), text)?;
-        let Ok(Some(reading)) = read_root_of(rt.alloc(), &deck) else {
-            assert!(rt; false);
-            return Ok(());
-        };
-        assert_eq!(rt; reading.y.y0, y0);
-        assert_eq!(rt; reading.y.rows.as_slice(), prices);
-        is_at(&rt, &reading.point, point);
-    }
-    Ok(())
-}
-
-/// The costs of both columns, and their ends in thousandths with the sides of both rows behind them.
-const COSTS: [i128; 2] = [-5, -4];
-
-const LOWS: [Option<i128>; 4] = [Some(0), Some(0), None, None];
-
-const HIGHS: [Option<i128>; 4] = [Some(10_000), Some(10_000), Some(24_000), Some(6_000)];
-
-#[test]
-fn parts(rt: HostRuntime) -> Result<(), Fail> {
-    let deck = deck_of(rt.alloc(), THREE)?;
-    let relaxation = build(rt.alloc(), &deck)?;
-    assert_eq!(rt; (relaxation.columns, relaxation.rows), (2, 2));
-    assert_eq!(rt; relaxation.costs.as_slice(), COSTS.as_slice());
-    assert_eq!(rt; relaxation.lows.as_slice(), LOWS.as_slice());
-    assert_eq!(rt; relaxation.highs.as_slice(), HIGHS.as_slice());
-    let root = NodeBox::root(rt.alloc(), &deck)?;
-    for column in 0..deck.columns().len() {
-        assert_eq!(rt; root.ends(column as u32), (Some(0), Some(10_000)));
     }
     Ok(())
 }
