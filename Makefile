@@ -4,6 +4,8 @@
 #     make install PREFIX=$HOME/.local
 #     make outputs                    compares what the documents show with what the program writes
 
+# How many crates are proved side by side.
+JOBS = 4
 PREFIX = /usr/local
 DESTDIR =
 PROGRAM = crates/umpire_main/out/umpire_main
@@ -13,6 +15,7 @@ COMMIT = $(shell git rev-parse --short=12 HEAD 2>/dev/null || echo unknown)
 .PHONY: build install uninstall outputs
 
 build:
+	rt all check --jobs $(JOBS)
 	cd crates/umpire_main && rt run -- solve "$(FIRST_DECK)"
 
 install: $(PROGRAM)
